@@ -1,0 +1,36 @@
+-- `program::node::node_at` meets its contract: each way through the code is a law of `Nodes`. Assumes nothing.
+use Rattle.program.proofs.Nodes.{nodes}
+use Rattle.program.proofs.node.node_at.Statement.{statement}
+use Rattle.program.proofs.node.node_at.Tie as tie
+
+pub node-at-spec : {M : Type 1} → statement M
+node-at-spec =
+    tie.close
+    (tie.spec
+    (λ c κs. search nodes)
+    (λ c. search nodes)
+    (λ c. search nodes)
+    (λ c. search nodes)
+    (λ c κs. search nodes)
+    (λ c. search nodes)
+    (λ c. search nodes)
+    (λ c. search nodes)
+    (λ c. search nodes)
+    (λ c. search nodes)
+    (λ c κs. search nodes)
+    (λ c. search nodes)
+    (λ c. search nodes)
+    (λ c. search nodes)
+    (λ c. search nodes)
+    (λ c. search nodes)
+    (λ c. search nodes)
+    (λ c. search nodes)
+    (λ c. search nodes)
+    (λ c. search nodes)
+    (λ c. search nodes)
+    (λ c. search nodes)
+    (λ c. search nodes)
+    (λ c. search nodes)
+    (λ c. search nodes)
+    (λ c. search nodes)
+    (λ c. search nodes))
