@@ -1,4 +1,5 @@
 -- `program::envelope::body` meets its contract. Assumes nothing.
+use borrow.Author.Needs.{needs}
 use Rattle.program.proofs.Envelopes.{envelopes}
 use Rattle.program.proofs.envelope.body.Statement.{statement}
 use Rattle.program.proofs.envelope.body.Tie as tie
@@ -7,11 +8,11 @@ pub body-spec : {M : Type 1} → statement M
 body-spec =
     tie.close
     (tie.spec
-    (λ c. search envelopes)
-    (λ c. search envelopes)
-    (λ c. search envelopes)
-    (λ c. search envelopes)
-    (λ c. search envelopes)
-    (λ c. search envelopes)
+    (λ c. search needs)
+    (λ c. search needs)
+    (λ c. search needs)
+    (λ c. search needs)
+    (λ c. search needs)
+    (λ c. search needs)
     (λ c. search envelopes)
     (λ c. search envelopes))

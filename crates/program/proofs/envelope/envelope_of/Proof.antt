@@ -1,4 +1,5 @@
 -- `program::envelope::envelope_of` meets its contract: each way through the code is a law of `Envelopes`. Assumes nothing.
+use borrow.Author.Needs.{needs}
 use Rattle.program.proofs.Envelopes.{envelopes}
 use Rattle.program.proofs.envelope.envelope_of.Statement.{statement}
 use Rattle.program.proofs.envelope.envelope_of.Tie as tie
@@ -8,18 +9,18 @@ envelope-of-spec =
     tie.close
     (tie.spec
     (λ c. search envelopes)
-    (λ c. search envelopes)
-    (λ c κs. search envelopes)
-    (λ c. search envelopes)
-    (λ c. search envelopes)
-    (λ c κs. search envelopes)
-    (λ c. search envelopes)
-    (λ c. search envelopes)
-    (λ c. search envelopes)
+    (λ c. search needs)
+    (λ c κs. search needs)
+    (λ c. search needs)
+    (λ c. search needs)
+    (λ c κs. search needs)
+    (λ c. search needs)
     (λ c. search envelopes)
     (λ c. search envelopes)
+    (λ c. search needs)
     (λ c. search envelopes)
     (λ c. search envelopes)
     (λ c. search envelopes)
+    (λ c. search needs)
     (λ c. search envelopes)
     (λ c. search envelopes))
