@@ -1,6 +1,6 @@
 -- What the reader of an envelope answers on each of its ways, and what a right envelope is. Assumes nothing.
-use mathlib.Core.Path.{_≡_, refl, sym, ap, _∙_}
-use mathlib.Core.Logic.{_⊎_, inl, inr}
+use mathlib.Core.Path.{_≡_, refl, sym, ap, subst, _∙_}
+use mathlib.Core.Logic.{_⊎_, inl, inr, _↔_}
 use mathlib.Core.List.{List}
 use mathlib.Core.Bool.{Bool, true, false, cond, not, _||_}
 use Prim.Native.Nat.{ℕ, _+_, _*_, _-_, _≤_, _<_}
@@ -92,6 +92,44 @@ envelope-means least most bytes =
         (ltb-false _ _ l, ltb-false _ _ h, both s b, eqb-false _ _ o)
     go false false false false false true f l h s b o =
         (ltb-false _ _ l, ltb-false _ _ h, both s b, eqb-true _ _ o)
+
+-- and no two answers say so of the same bytes
+module _ (least most : ℕ) (bytes : List ℕ) where
+  exact-not-fewer : (length bytes ≡ 2 + stated bytes) → Means least most bytes Fewer → ⊥
+  exact-not-fewer e (inl h) = omega arith
+  exact-not-fewer e (inr h) = omega arith
+
+  exact-not-length : least ≤ stated bytes → stated bytes ≤ most → (length bytes ≡ 2 + stated bytes) → Means least most bytes Length → ⊥
+  exact-not-length l u e (two, inl h) = omega arith
+  exact-not-length l u e (two, inr (inl h)) = omega arith
+  exact-not-length l u e (two, inr (inr h)) = omega arith
+
+  fewer-not-length : Means least most bytes Fewer → Means least most bytes Length → ⊥
+  fewer-not-length (inl h) m = omega (arith, m .0)
+  fewer-not-length (inr (l, u, h)) (two, inl x) = omega arith
+  fewer-not-length (inr (l, u, h)) (two, inr (inl x)) = omega arith
+  fewer-not-length (inr (l, u, h)) (two, inr (inr x)) = omega arith
+
+  one-answer : (x y : Envelope) → Means least most bytes x → Means least most bytes y → x ≡ y
+  one-answer Right Right m n = refl
+  one-answer Right Fewer m n = absurd (exact-not-fewer (m .2) n)
+  one-answer Right Length m n = absurd (exact-not-length (m .0) (m .1) (m .2) n)
+  one-answer Right Version m n = absurd (n .3 (m .3))
+  one-answer Fewer Right m n = absurd (exact-not-fewer (n .2) m)
+  one-answer Fewer Fewer m n = refl
+  one-answer Fewer Length m n = absurd (fewer-not-length m n)
+  one-answer Fewer Version m n = absurd (exact-not-fewer (n .2) m)
+  one-answer Length Right m n = absurd (exact-not-length (n .0) (n .1) (n .2) m)
+  one-answer Length Fewer m n = absurd (fewer-not-length n m)
+  one-answer Length Length m n = refl
+  one-answer Length Version m n = absurd (exact-not-length (n .0) (n .1) (n .2) m)
+  one-answer Version Right m n = absurd (m .3 (n .3))
+  one-answer Version Fewer m n = absurd (exact-not-fewer (m .2) n)
+  one-answer Version Length m n = absurd (exact-not-length (m .0) (m .1) (m .2) n)
+  one-answer Version Version m n = refl
+
+  pub envelope-exactly : (x : Envelope) → (envelope least most bytes ≡ x) ↔ Means least most bytes x
+  envelope-exactly x = (λ e. subst (Means least most bytes) e (envelope-means least most bytes), one-answer (envelope least most bytes) x (envelope-means least most bytes))
 
 -- what follows the version byte
 module _ (bytes : List ℕ) where
