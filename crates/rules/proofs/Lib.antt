@@ -14,4 +14,4 @@ pub mod Invariant
 pub mod SetUps
 pub mod Theorems
 pub mod Meanings
-pub mod Cases
+pub mod Worked
