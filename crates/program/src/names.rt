@@ -6,6 +6,7 @@ ghost use Rattle.program.specs.Names.{actionByte, controllerByte};
 pub struct Action(pub u8);
 
 // A controller, 16 to 31 in a program; a free slot has 0, and a launch may name any: whoever uses one tests it.
+#[repr(C)]
 pub struct Controller(pub u8);
 
 pub enum ActionByte {

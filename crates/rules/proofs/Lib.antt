@@ -3,6 +3,7 @@ pub mod Rows
 pub mod Search
 pub mod Pigeon
 pub mod Pass
+pub mod Issues
 pub mod Places
 pub mod Sound
 pub mod Steps

@@ -3,6 +3,7 @@ mod net;
 mod reply;
 
 pub use net::Counter;
+pub use net::Issued;
 pub use net::Net;
 pub use net::Thread;
 pub use reply::ControllerField;
