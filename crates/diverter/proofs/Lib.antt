@@ -1,0 +1,3 @@
+-- The laws of replies as numbers, and what the walks of the calls by `&mut` share.
+pub mod Replies
+mod Lent
