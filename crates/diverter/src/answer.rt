@@ -116,7 +116,7 @@ fn answer_for(number: u8, f: Fields) -> Answer
     }
 }
 
-pub(crate) fn answer_of(reply: Reply) -> Answer
+pub fn answer_of(reply: Reply) -> Answer
     ensures { result ≡ answer_of reply }
 {
     match reply {

@@ -1,4 +1,6 @@
 // What a controller links: the net lent by `&mut`, a reply as plain numbers.
+#![tactic(auto)]
+
 mod answer;
 mod calls;
 mod told;

@@ -14,7 +14,7 @@ pub struct Told {
     pub net: Net,
 }
 
-pub(crate) fn set_up_told(net: Net, bytes: &[u8]) -> Told
+pub fn set_up_told(net: Net, bytes: &[u8]) -> Told
     ensures { result ≡ told_of (set_up_of net bytes.now) }
 {
     let out = set_up(net, bytes);
@@ -26,7 +26,7 @@ pub(crate) fn set_up_told(net: Net, bytes: &[u8]) -> Told
     }
 }
 
-pub(crate) fn launch_told(net: Net, at: u8, bytes: &[u8]) -> Told
+pub fn launch_told(net: Net, at: u8, bytes: &[u8]) -> Told
     ensures { result ≡ told_of (launch_of net (controller at) bytes.now) }
 {
     let out = launch(net, Controller(at), bytes);
@@ -38,7 +38,7 @@ pub(crate) fn launch_told(net: Net, at: u8, bytes: &[u8]) -> Told
     }
 }
 
-pub(crate) fn step_told(net: Net, slot: usize) -> Told
+pub fn step_told(net: Net, slot: usize) -> Told
     ensures { result ≡ told_of (step_of net slot) }
 {
     let out = step(net, slot);

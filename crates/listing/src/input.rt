@@ -23,7 +23,7 @@ pub struct Envelope {
     pub came: Came,
 }
 
-pub(crate) fn read_byte() -> Byte {
+pub fn read_byte() -> Byte {
     let mut one = [0u8; 1];
     let got = io::read_full(0, &mut one);
     if got == 1 {
@@ -40,7 +40,7 @@ fn wide(x: u8) -> usize
 }
 
 // The first `len` bytes, or all where there are fewer.
-pub(crate) fn beginning(bytes: &[u8], len: usize) -> &[u8] {
+pub fn beginning(bytes: &[u8], len: usize) -> &[u8] {
     if len <= bytes.len() {
         &bytes[0..len]
     } else {
@@ -59,7 +59,7 @@ fn fill(bytes: &mut [u8], from: usize, to: usize) -> usize {
 }
 
 // An envelope whose length may be 2 to `most`, at most 770; of one that is out of range no more is read.
-pub(crate) fn read_envelope(most: usize) -> Envelope {
+pub fn read_envelope(most: usize) -> Envelope {
     let mut bytes = [0u8; 772];
     let first = fill(&mut bytes, 0, 2);
     if first < 2 {

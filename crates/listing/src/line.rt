@@ -37,7 +37,7 @@ fn with_field(line: Line, shown: Shown) -> Line {
     }
 }
 
-pub(crate) fn print_line(no: u64, answer: Answer) {
+pub fn print_line(no: u64, answer: Answer) {
     let empty = Line {
         bytes: [0; 80],
         len: 0,

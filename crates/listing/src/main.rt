@@ -1,4 +1,6 @@
 // Reads a set-up and then commands from standard input, and lists what each call answers, a line each.
+#![tactic(auto)]
+
 mod input;
 mod line;
 

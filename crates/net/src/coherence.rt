@@ -35,7 +35,7 @@ fn agrees_with_all(trust: &[u8], n: u8, k: Controller) -> bool
     true
 }
 
-pub(crate) fn coherent(trust: &[u8], n: u8) -> bool
+pub fn coherent(trust: &[u8], n: u8) -> bool
     requires { n ≤ 16 }
     ensures { result ≡ coherent_in trust.now n }
 {

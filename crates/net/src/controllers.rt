@@ -7,7 +7,7 @@ use crate::bytes::{byte_at, wide};
 use program::Controller;
 
 // Is it a controller of a net of n?
-pub(crate) fn in_net(n: u8, k: Controller) -> bool
+pub fn in_net(n: u8, k: Controller) -> bool
     ensures { result ≡ stands_in n k }
 {
     if k.0 < 16 {
@@ -27,14 +27,14 @@ fn row(k: Controller) -> usize
 }
 
 // The trust of k in l.
-pub(crate) fn trust_of(trust: &[u8], k: Controller, l: Controller) -> u8
+pub fn trust_of(trust: &[u8], k: Controller, l: Controller) -> u8
     ensures { result ≡ trust_in trust.now k l }
 {
     byte_at(trust, 16 * row(k) + row(l))
 }
 
 // Is every trust byte unknown, good or bad?
-pub(crate) fn trust_bytes(trust: &[u8]) -> bool
+pub fn trust_bytes(trust: &[u8]) -> bool
     ensures { result ≡ every (λ b. leb b 2) trust.now }
 {
     let mut i = 0;
@@ -48,7 +48,7 @@ pub(crate) fn trust_bytes(trust: &[u8]) -> bool
 }
 
 // The 32 counts of its policy.
-pub(crate) fn policy_of(policies: &[u8], k: Controller) -> [u8; 32]
+pub fn policy_of(policies: &[u8], k: Controller) -> [u8; 32]
     requires { (k.0 < 32) × (length policies.now ≡ 512) }
     ensures { result ≡ policy_in policies.now k }
 {

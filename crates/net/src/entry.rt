@@ -22,7 +22,7 @@ pub enum Look {
 }
 
 // A trustworthy controller has launched code tested; any other only has its bytes read.
-pub(crate) fn at_launch(trust: &[u8], c: Controller) -> Look
+pub fn at_launch(trust: &[u8], c: Controller) -> Look
     ensures { result ≡ launch_look trust.now c }
 {
     if trust_of(trust, c, c) == 1 {
@@ -33,7 +33,7 @@ pub(crate) fn at_launch(trust: &[u8], c: Controller) -> Look
 }
 
 // A target that trusts the present controller compares the slip alone: it is the target's trust that decides.
-pub(crate) fn at_entry(trust: &[u8], target: Controller, present: Controller) -> Look
+pub fn at_entry(trust: &[u8], target: Controller, present: Controller) -> Look
     ensures { result ≡ entry_look trust.now target present }
 {
     if trust_of(trust, target, present) == 1 {
@@ -44,7 +44,7 @@ pub(crate) fn at_entry(trust: &[u8], target: Controller, present: Controller) ->
 }
 
 // The code at `code`, and the `entries` slip entries at `slip`, against a policy's 32 counts.
-pub(crate) fn enter(
+pub fn enter(
     look: Look,
     policy: [u8; 32],
     tree: &[u8],

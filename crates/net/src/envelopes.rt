@@ -9,7 +9,7 @@ use program::{Envelope, envelope_of};
 use rules::Refusal;
 
 // 1, 2 or 3.
-pub(crate) fn envelope_check(bytes: &[u8], most: usize) -> Check
+pub fn envelope_check(bytes: &[u8], most: usize) -> Check
     ensures { result ≡ first_of (envelope_rows (envelope 2 most bytes.now)) }
 {
     match envelope_of(bytes, 2, most) {

@@ -1,4 +1,6 @@
 // The calls on a net as code by value: set-up, launch and step, each proved to be what the rules say.
+#![tactic(auto)]
+
 mod bytes;
 mod coherence;
 mod controllers;

@@ -18,7 +18,7 @@ fn uses(t: Thread, place: u8) -> bool
 }
 
 // Does some thread use this place?
-pub(crate) fn is_used(threads: [Thread; 64], place: u8) -> bool
+pub fn is_used(threads: [Thread; 64], place: u8) -> bool
     ensures { result ≡ some (has (λ t. t.place) place) threads }
 {
     let mut i = 0;
@@ -33,7 +33,7 @@ pub(crate) fn is_used(threads: [Thread; 64], place: u8) -> bool
 }
 
 // The lowest free place of `count` places from `from` on, and the place behind them where none is free.
-pub(crate) fn free_place(threads: [Thread; 64], from: u8, count: u8) -> u8
+pub fn free_place(threads: [Thread; 64], from: u8, count: u8) -> u8
     requires { from + count ≤ 8 }
     ensures { result ≡ place_in threads from count }
 {
@@ -49,7 +49,7 @@ pub(crate) fn free_place(threads: [Thread; 64], from: u8, count: u8) -> u8
 }
 
 // A place's 384 bytes; there is no ninth place.
-pub(crate) fn place_bytes(places: &[u8; 3072], place: u8) -> &[u8]
+pub fn place_bytes(places: &[u8; 3072], place: u8) -> &[u8]
     ensures { result.now ≡ place_bytes places.now place }
 {
     let all = &places[..];
@@ -74,7 +74,7 @@ fn fill(places: &mut [u8], from: usize, tree: &[u8])
 }
 
 // Writes a tree into a place: nothing of what stood there is left.
-pub(crate) fn write_tree(places: &mut [u8; 3072], place: u8, tree: &[u8])
+pub fn write_tree(places: &mut [u8; 3072], place: u8, tree: &[u8])
     requires { (place < 8) × (length tree.now ≤ 384) }
     ensures { places.new ≡ written places.old place tree.now }
 {

@@ -6,7 +6,7 @@ use program::Controller;
 use rules::Thread;
 
 // The lowest free slot of `count` slots from `from` on, and the slot behind them where none is free.
-pub(crate) fn free_slot(threads: [Thread; 64], from: usize, count: usize) -> usize
+pub fn free_slot(threads: [Thread; 64], from: usize, count: usize) -> usize
     requires { from + count ≤ 64 }
     ensures { result ≡ slot_in threads from count }
 {
@@ -23,7 +23,7 @@ pub(crate) fn free_slot(threads: [Thread; 64], from: usize, count: usize) -> usi
 }
 
 // A free slot.
-pub(crate) fn no_thread() -> Thread
+pub fn no_thread() -> Thread
     ensures { result ≡ zero_thread }
 {
     Thread {
@@ -35,7 +35,7 @@ pub(crate) fn no_thread() -> Thread
 }
 
 // The thread in a slot; behind the slots there is none.
-pub(crate) fn thread_at(threads: [Thread; 64], slot: usize) -> Thread
+pub fn thread_at(threads: [Thread; 64], slot: usize) -> Thread
     ensures { result ≡ get_or threads slot zero_thread }
 {
     if slot < 64 {
@@ -46,7 +46,7 @@ pub(crate) fn thread_at(threads: [Thread; 64], slot: usize) -> Thread
 }
 
 // The slots with a thread in one of them.
-pub(crate) fn put(threads: [Thread; 64], slot: usize, t: Thread) -> [Thread; 64]
+pub fn put(threads: [Thread; 64], slot: usize, t: Thread) -> [Thread; 64]
     ensures { result ≡ set threads slot t }
 {
     let mut all = threads;

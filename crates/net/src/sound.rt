@@ -120,7 +120,7 @@ fn slots_sound(n: u8, places: &[u8; 3072], threads: [Thread; 64]) -> bool
 }
 
 // Is the record sound?
-pub(crate) fn sound(net: Net) -> bool
+pub fn sound(net: Net) -> bool
     ensures { result ≡ soundb net }
 {
     if 16 < net.n {

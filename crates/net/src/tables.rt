@@ -33,7 +33,7 @@ fn policy_byte(bytes: &[u8], n: u8, x: usize) -> u8
     byte_at(bytes, 4 + times(rows, rows) + x)
 }
 
-pub(crate) fn trust_table(bytes: &[u8], n: u8) -> [u8; 256]
+pub fn trust_table(bytes: &[u8], n: u8) -> [u8; 256]
     ensures { result ≡ laid (trust_byte bytes.now n) 0 256 }
 {
     let mut table = [0; 256];
@@ -45,7 +45,7 @@ pub(crate) fn trust_table(bytes: &[u8], n: u8) -> [u8; 256]
     table
 }
 
-pub(crate) fn policy_table(bytes: &[u8], n: u8) -> [u8; 512]
+pub fn policy_table(bytes: &[u8], n: u8) -> [u8; 512]
     ensures { result ≡ laid (policy_byte bytes.now n) 0 512 }
 {
     let mut table = [0; 512];

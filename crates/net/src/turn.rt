@@ -81,7 +81,7 @@ fn turn_at(net: Net, t: Thread, node: Node) -> Turn
 }
 
 // 99, 11, then by node.
-pub(crate) fn turn_of(net: Net, slot: usize) -> Turn
+pub fn turn_of(net: Net, slot: usize) -> Turn
     ensures { result ≡ turned net slot }
 {
     if !sound(net) {

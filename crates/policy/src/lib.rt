@@ -1,4 +1,6 @@
 // What programs need, and what policies allow.
+#![tactic(auto)]
+
 mod table;
 mod tally;
 mod test;

@@ -17,7 +17,7 @@ fn join(a: u8, b: u8) -> u8
 }
 
 // The counts with a name `times` more; they have no name above 31.
-pub(crate) fn add(counts: [u8; 32], name: u8, times: u8) -> [u8; 32]
+pub fn add(counts: [u8; 32], name: u8, times: u8) -> [u8; 32]
     ensures { result ≡ more counts name times }
 {
     let mut all = counts;
@@ -29,7 +29,7 @@ pub(crate) fn add(counts: [u8; 32], name: u8, times: u8) -> [u8; 32]
 }
 
 // The counts of `n` slip entries from `at`, as they stand, up to the first that is none.
-pub(crate) fn slip_counts(tree: &[u8], at: usize, n: u8) -> [u8; 32]
+pub fn slip_counts(tree: &[u8], at: usize, n: u8) -> [u8; 32]
     ensures { result ≡ slip_counts tree.now n at none }
 {
     let mut counts = [0; 32];
@@ -55,7 +55,7 @@ pub(crate) fn slip_counts(tree: &[u8], at: usize, n: u8) -> [u8; 32]
 }
 
 // No count is above what is allowed: one comparison for needs and slips, against slips and policies.
-pub(crate) fn fits_all(counts: [u8; 32], allowed: [u8; 32]) -> bool
+pub fn fits_all(counts: [u8; 32], allowed: [u8; 32]) -> bool
     ensures { result ≡ fits_bytes counts allowed }
 {
     let mut i = 0;

@@ -1,4 +1,6 @@
 // The bytes of a program: its names, the reader of its tree, the node at a position, and the envelope around it.
+#![tactic(auto)]
+
 mod envelope;
 mod names;
 mod node;

@@ -1,4 +1,6 @@
 // The one record that every call works on, and what a call answers. What each call means stands in specs/.
+#![tactic(auto)]
+
 mod net;
 mod reply;
 
