@@ -28,19 +28,22 @@ unfolding Good encode
 read_back s k end g t = read_step s k ∙ step_con (read_at s) s k (n_end (start_back s k ends tt t))
 read_back s k (act a p) g t =
     let w = parts (start_bytes (acts a)) t in
-    read_step s k ∙ step_con (read_at s) s k (n_act (start_back s k (acts a) g.0 w.0) (read_back s _ p g.1 w.1))
+    read_step s k ∙ step_con (read_at s) s k (n_act (start_back s k (acts a) g.0 w.0) (read_back s (k + length (start_bytes (acts a))) p g.1 w.1))
 read_back s k (split p q) g t =
     let w = parts (start_bytes splits) t in
     let v = parts (encode p) w.1 in
-    read_step s k ∙ step_con (read_at s) s k (n_split (start_back s k splits tt w.0) (read_back s _ p g.0 v.0) (read_back s _ q g.1 v.1))
+    let j = k + length (start_bytes splits) in
+    read_step s k ∙ step_con (read_at s) s k
+    (n_split (start_back s k splits tt w.0) (read_back s j p g.0 v.0) (read_back s (j + length (encode p)) q g.1 v.1))
 read_back s k (repeat p) g t =
     let w = parts (start_bytes repeats) t in
-    read_step s k ∙ step_con (read_at s) s k (n_repeat (start_back s k repeats tt w.0) (read_back s _ p g w.1))
+    read_step s k ∙ step_con (read_at s) s k (n_repeat (start_back s k repeats tt w.0) (read_back s (k + length (start_bytes repeats)) p g w.1))
 read_back s k (depart c slip p) g t =
     let w = parts (start_bytes departs) t in
     let v = parts (head_bytes (c, slip)) w.1 in
+    let j = k + length (start_bytes departs) in
     read_step s k ∙ step_con (read_at s) s k
-    (n_depart (start_back s k departs tt w.0) (head_back s _ (c, slip) (g.0, g.1, g.2) v.0) (read_back s _ p g.3 v.1))
+    (n_depart (start_back s k departs tt w.0) (head_back s j (c, slip) (g.0, g.1, g.2) v.0) (read_back s (j + length (head_bytes (c, slip))) p g.3 v.1))
 
 -- reading finds a program exactly where a well formed program's bytes stand
 pub reads_exactly : (s : List ℕ) (k : ℕ) (p : Program) (m : ℕ) → (read_at s k ≡ whole p m) ↔ (Stands s k (encode p) m × Good p)

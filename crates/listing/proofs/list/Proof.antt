@@ -9,8 +9,8 @@ invariant-loop hall₀ turns₀ hall turns = Unit {0}
 abbrev decreases-loop : tie.decreases-loop
 decreases-loop hall₀ turns₀ hall turns = turns
 
-pub list-spec : {M : Type 1} → statement M
-list-spec =
+pub list_spec : {M : Type 1} → statement M
+list_spec =
     tie.close
     (tie.spec invariant-loop decreases-loop
     (λ c. tt)

@@ -4,8 +4,8 @@ use Rattle.diverter.proofs.Replies.{replies}
 use Rattle.diverter.proofs.answer.answer_for.Statement.{statement}
 use Rattle.diverter.proofs.answer.answer_for.Tie as tie
 
-pub answer-for-spec : {M : Type 1} → statement M
-answer-for-spec =
+pub answer_for_spec : {M : Type 1} → statement M
+answer_for_spec =
     tie.close
     (tie.spec
     (λ c κs. search rules)

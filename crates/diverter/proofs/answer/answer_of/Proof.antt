@@ -4,8 +4,8 @@ use Rattle.diverter.proofs.Replies.{replies}
 use Rattle.diverter.proofs.answer.answer_of.Statement.{statement}
 use Rattle.diverter.proofs.answer.answer_of.Tie as tie
 
-pub answer-of-spec : {M : Type 1} → statement M
-answer-of-spec =
+pub answer_of_spec : {M : Type 1} → statement M
+answer_of_spec =
     tie.close
     (tie.spec
     (λ c. search rules)

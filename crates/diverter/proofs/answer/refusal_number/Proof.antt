@@ -5,8 +5,8 @@ use Rattle.rules.specs.Rows.{refusal_number}
 use Rattle.diverter.proofs.answer.refusal_number.Statement.{statement}
 use Rattle.diverter.proofs.answer.refusal_number.Tie as tie
 
-pub refusal-number-spec : {M : Type 1} → statement M
-refusal-number-spec =
+pub refusal_number_spec : {M : Type 1} → statement M
+refusal_number_spec =
     tie.close
     (tie.spec
     (λ c. search rules)

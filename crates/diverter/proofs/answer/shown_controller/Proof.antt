@@ -4,8 +4,8 @@ use Rattle.diverter.proofs.Replies.{replies}
 use Rattle.diverter.proofs.answer.shown_controller.Statement.{statement}
 use Rattle.diverter.proofs.answer.shown_controller.Tie as tie
 
-pub shown-controller-spec : {M : Type 1} → statement M
-shown-controller-spec =
+pub shown_controller_spec : {M : Type 1} → statement M
+shown_controller_spec =
     tie.close
     (tie.spec
     (λ c. search rules)

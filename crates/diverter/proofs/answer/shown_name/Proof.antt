@@ -4,8 +4,8 @@ use Rattle.diverter.proofs.Replies.{replies}
 use Rattle.diverter.proofs.answer.shown_name.Statement.{statement}
 use Rattle.diverter.proofs.answer.shown_name.Tie as tie
 
-pub shown-name-spec : {M : Type 1} → statement M
-shown-name-spec =
+pub shown_name_spec : {M : Type 1} → statement M
+shown_name_spec =
     tie.close
     (tie.spec
     (λ c. search rules)

@@ -4,8 +4,8 @@ use Rattle.diverter.proofs.Replies.{replies}
 use Rattle.diverter.proofs.answer.shown_pass.Statement.{statement}
 use Rattle.diverter.proofs.answer.shown_pass.Tie as tie
 
-pub shown-pass-spec : {M : Type 1} → statement M
-shown-pass-spec =
+pub shown_pass_spec : {M : Type 1} → statement M
+shown_pass_spec =
     tie.close
     (tie.spec
     (λ c. search rules)

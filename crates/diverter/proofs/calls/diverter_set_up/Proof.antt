@@ -152,9 +152,9 @@ diverter-set-up-meets : {M : Type 1} {𝓤 : Ura M} (𝓛 : Logic 𝓤) → (at_
     → Meets 𝓛 f.signature (WpFn 𝓤 𝓛.H 𝓣.C 𝓣.Λ code.function) (f.spec 𝓛 at_mem run)
 diverter-set-up-meets {𝓤 = 𝓤} 𝓛 at_mem run 𝓣 known = walk_Meets 𝓛 f.ended stayed (goes 𝓛 at_mem run) (f.clauses 𝓛 at_mem run) (WpFn 𝓤 𝓛.H 𝓣.C 𝓣.Λ code.function) (WpFn-mono 𝓤 𝓛.H 𝓛.laws 𝓣 code.function) (diverter-set-up-walks 𝓛 at_mem run 𝓣.C 𝓣.Λ (fm_of 𝓤 𝓛.H 𝓛.laws 𝓣) known)
 
-pub diverter-set-up-spec : {M : Type 1} → stated.statement M
+pub diverter_set_up_spec : {M : Type 1} → stated.statement M
 unfolding code.routine tables_of
-diverter-set-up-spec 𝓤 𝓛 𝓜 𝓡 =
+diverter_set_up_spec 𝓤 𝓛 𝓜 𝓡 =
     entered 𝓤 𝓛.H (triple_of 𝓛 f.signature (f.spec 𝓛 𝓜.mem 𝓡.run))
     (tables 𝓤 𝓛.H 𝓜 𝓡 code.env).C (tables 𝓤 𝓛.H 𝓜 𝓡 code.env).Λ #call code.function (code.unfolded 𝓤 𝓛.H 𝓜 𝓡)
     (diverter-set-up-meets 𝓛 𝓜.mem 𝓡.run (tables_of 𝓤 𝓛.H 𝓜 (tables 𝓤 𝓛.H 𝓜 𝓡 code.env))

@@ -4,8 +4,8 @@ use Rattle.diverter.proofs.Replies.{replies}
 use Rattle.diverter.proofs.told.launch_told.Statement.{statement}
 use Rattle.diverter.proofs.told.launch_told.Tie as tie
 
-pub launch-told-spec : {M : Type 1} → statement M
-launch-told-spec =
+pub launch_told_spec : {M : Type 1} → statement M
+launch_told_spec =
     tie.close
     (tie.spec
     (λ c κs. search rules)

@@ -4,8 +4,8 @@ use Rattle.diverter.proofs.Replies.{replies}
 use Rattle.diverter.proofs.told.set_up_told.Statement.{statement}
 use Rattle.diverter.proofs.told.set_up_told.Tie as tie
 
-pub set-up-told-spec : {M : Type 1} → statement M
-set-up-told-spec =
+pub set_up_told_spec : {M : Type 1} → statement M
+set_up_told_spec =
     tie.close
     (tie.spec
     (λ c κs. search rules)

@@ -4,8 +4,8 @@ use Rattle.diverter.proofs.Replies.{replies}
 use Rattle.diverter.proofs.told.step_told.Statement.{statement}
 use Rattle.diverter.proofs.told.step_told.Tie as tie
 
-pub step-told-spec : {M : Type 1} → statement M
-step-told-spec =
+pub step_told_spec : {M : Type 1} → statement M
+step_told_spec =
     tie.close
     (tie.spec
     (λ c κs. search rules)

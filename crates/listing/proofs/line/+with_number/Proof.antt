@@ -21,8 +21,8 @@ with-number-below t = and 0 with-number-kinds.ps (falls 0 with-number-kinds.ps �
 abbrev calls : ℕ → with-number-lts.Claims
 calls t = (with-byte-reads.Asked, with-byte-reads.Learnt, with-number-below t, with-number.Post)
 
-pub +with-number-spec : {M : Type 1} → statement M
-+with-number-spec =
+pub +with_number_spec : {M : Type 1} → statement M
++with_number_spec =
     close μ-with-number
     (λ t. with-number-lts.spec (calls t) (with-number-at t) with-number.Post
     (λ c. omega arith)

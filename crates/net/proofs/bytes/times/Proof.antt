@@ -6,8 +6,8 @@ use borrow.Author.Rules.{rules}
 use Rattle.net.proofs.bytes.times.Statement.{statement}
 use Rattle.net.proofs.bytes.times.Tie as tie
 
-pub times-spec : {M : Type 1} → statement M
-times-spec =
+pub times_spec : {M : Type 1} → statement M
+times_spec =
     tie.close
     (tie.spec
     (λ c. record { fits = omega (arith, product_low c.args.a c.args.b (search rules) (search rules)) })

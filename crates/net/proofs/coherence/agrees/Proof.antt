@@ -4,8 +4,8 @@ use borrow.Author.Rules.{rules}
 use Rattle.net.proofs.coherence.agrees.Statement.{statement}
 use Rattle.net.proofs.coherence.agrees.Tie as tie
 
-pub agrees-spec : {M : Type 1} → statement M
-agrees-spec =
+pub agrees_spec : {M : Type 1} → statement M
+agrees_spec =
     tie.close
     (tie.spec
     (λ c κs. search rules)

@@ -13,8 +13,8 @@ invariant-loop trust n k end l₀ l = (n ≤ 16) × Ranged (λ l. agrees_in trus
 abbrev decreases-loop : tie.decreases-loop
 decreases-loop trust n k end l₀ l = end - l
 
-pub agrees-with-all-spec : {M : Type 1} → statement M
-agrees-with-all-spec =
+pub agrees_with_all_spec : {M : Type 1} → statement M
+agrees_with_all_spec =
     tie.close
     (tie.spec invariant-loop decreases-loop
     (λ c. search rules)

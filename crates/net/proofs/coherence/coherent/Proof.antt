@@ -13,8 +13,8 @@ invariant-loop trust n end k₀ k = (n ≤ 16) × Ranged (λ k. all_agree trust 
 abbrev decreases-loop : tie.decreases-loop
 decreases-loop trust n end k₀ k = end - k
 
-pub coherent-spec : {M : Type 1} → statement M
-coherent-spec =
+pub coherent_spec : {M : Type 1} → statement M
+coherent_spec =
     tie.close
     (tie.spec invariant-loop decreases-loop
     (λ c. search rules)

@@ -4,8 +4,8 @@ use borrow.Author.Rules.{rules}
 use Rattle.net.proofs.controllers.in_net.Statement.{statement}
 use Rattle.net.proofs.controllers.in_net.Tie as tie
 
-pub in-net-spec : {M : Type 1} → statement M
-in-net-spec =
+pub in_net_spec : {M : Type 1} → statement M
+in_net_spec =
     tie.close
     (tie.spec
     (λ c. search (rules, stands_not))

@@ -14,8 +14,8 @@ invariant-loop policies from counts₀ i₀ counts i = (from ≤ 480) × (length
 abbrev decreases-loop : tie.decreases-loop
 decreases-loop policies from counts₀ i₀ counts i = 32 - i
 
-pub policy-of-spec : {M : Type 1} → statement M
-policy-of-spec =
+pub policy_of_spec : {M : Type 1} → statement M
+policy_of_spec =
     tie.close
     (tie.spec invariant-loop decreases-loop
     (λ c κs. search rules)

@@ -15,8 +15,8 @@ invariant-loop trust i₀ i = Passed (λ b. leb b 2) (length trust) trust i
 abbrev decreases-loop : tie.decreases-loop
 decreases-loop trust i₀ i = length trust - i
 
-pub trust-bytes-spec : {M : Type 1} → statement M
-trust-bytes-spec =
+pub trust_bytes_spec : {M : Type 1} → statement M
+trust_bytes_spec =
     tie.close
     (tie.spec invariant-loop decreases-loop
     (λ c. passed_none _ _ _ refl)

@@ -4,8 +4,8 @@ use borrow.Author.Rules.{rules}
 use Rattle.net.proofs.controllers.trust_of.Statement.{statement}
 use Rattle.net.proofs.controllers.trust_of.Tie as tie
 
-pub trust-of-spec : {M : Type 1} → statement M
-trust-of-spec =
+pub trust_of_spec : {M : Type 1} → statement M
+trust_of_spec =
     tie.close
     (tie.spec
     (λ c κs. search rules)

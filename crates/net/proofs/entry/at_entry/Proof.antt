@@ -4,8 +4,8 @@ use borrow.Author.Rules.{rules}
 use Rattle.net.proofs.entry.at_entry.Statement.{statement}
 use Rattle.net.proofs.entry.at_entry.Tie as tie
 
-pub at-entry-spec : {M : Type 1} → statement M
-at-entry-spec =
+pub at_entry_spec : {M : Type 1} → statement M
+at_entry_spec =
     tie.close
     (tie.spec
     (λ c κs. search rules)

@@ -4,8 +4,8 @@ use borrow.Author.Rules.{rules}
 use Rattle.net.proofs.entry.at_launch.Statement.{statement}
 use Rattle.net.proofs.entry.at_launch.Tie as tie
 
-pub at-launch-spec : {M : Type 1} → statement M
-at-launch-spec =
+pub at_launch_spec : {M : Type 1} → statement M
+at_launch_spec =
     tie.close
     (tie.spec
     (λ c κs. search rules)

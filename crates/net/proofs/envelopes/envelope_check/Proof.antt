@@ -4,8 +4,8 @@ use borrow.Author.Rules.{rules}
 use Rattle.net.proofs.envelopes.envelope_check.Statement.{statement}
 use Rattle.net.proofs.envelopes.envelope_check.Tie as tie
 
-pub envelope-check-spec : {M : Type 1} → statement M
-envelope-check-spec =
+pub envelope_check_spec : {M : Type 1} → statement M
+envelope_check_spec =
     tie.close
     (tie.spec
     (λ c κs. search rules)

@@ -4,8 +4,8 @@ use borrow.Author.Rules.{rules}
 use Rattle.net.proofs.launching.launch.Statement.{statement}
 use Rattle.net.proofs.launching.launch.Tie as tie
 
-pub launch-spec : {M : Type 1} → statement M
-launch-spec =
+pub launch_spec : {M : Type 1} → statement M
+launch_spec =
     tie.close
     (tie.spec
     (λ c κs. search rules)

@@ -5,8 +5,8 @@ use borrow.Author.Rules.{rules}
 use Rattle.net.proofs.launching.launch_check.Statement.{statement}
 use Rattle.net.proofs.launching.launch_check.Tie as tie
 
-pub launch-check-spec : {M : Type 1} → statement M
-launch-check-spec =
+pub launch_check_spec : {M : Type 1} → statement M
+launch_check_spec =
     tie.close
     (tie.spec
     (λ c κs. search rules)

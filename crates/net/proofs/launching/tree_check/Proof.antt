@@ -4,8 +4,8 @@ use borrow.Author.Rules.{rules}
 use Rattle.net.proofs.launching.tree_check.Statement.{statement}
 use Rattle.net.proofs.launching.tree_check.Tie as tie
 
-pub tree-check-spec : {M : Type 1} → statement M
-tree-check-spec =
+pub tree_check_spec : {M : Type 1} → statement M
+tree_check_spec =
     tie.close
     (tie.spec
     (λ c κs. search rules)

@@ -14,8 +14,8 @@ invariant-loop threads from count end place₀ place = (from + count ≤ 8) × S
 abbrev decreases-loop : tie.decreases-loop
 decreases-loop threads from count end place₀ place = end - place
 
-pub free-place-spec : {M : Type 1} → statement M
-free-place-spec =
+pub free_place_spec : {M : Type 1} → statement M
+free_place_spec =
     tie.close
     (tie.spec invariant-loop decreases-loop
     (λ c. search rules)

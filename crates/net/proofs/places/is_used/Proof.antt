@@ -13,8 +13,8 @@ invariant-loop place threads i₀ i = Seen (has (λ t. t.place) place) threads i
 abbrev decreases-loop : tie.decreases-loop
 decreases-loop place threads i₀ i = 64 - i
 
-pub is-used-spec : {M : Type 1} → statement M
-is-used-spec =
+pub is_used_spec : {M : Type 1} → statement M
+is_used_spec =
     tie.close
     (tie.spec invariant-loop decreases-loop
     (λ c. search (rules, seen_none))

@@ -4,8 +4,8 @@ use borrow.Author.Rules.{rules}
 use Rattle.net.proofs.places.place_bytes.Statement.{statement}
 use Rattle.net.proofs.places.place_bytes.Tie as tie
 
-pub place-bytes-spec : {M : Type 1} → statement M
-place-bytes-spec =
+pub place_bytes_spec : {M : Type 1} → statement M
+place_bytes_spec =
     tie.close
     (tie.spec
     (λ c. search rules)

@@ -4,8 +4,8 @@ use borrow.Author.Rules.{rules}
 use Rattle.net.proofs.places.uses.Statement.{statement}
 use Rattle.net.proofs.places.uses.Tie as tie
 
-pub uses-spec : {M : Type 1} → statement M
-uses-spec =
+pub uses_spec : {M : Type 1} → statement M
+uses_spec =
     tie.close
     (tie.spec
     (λ c. search (rules, has_none))

@@ -4,8 +4,8 @@ use borrow.Author.Rules.{rules}
 use Rattle.net.proofs.places.write_tree.Statement.{statement}
 use Rattle.net.proofs.places.write_tree.Tie as tie
 
-pub write-tree-spec : {M : Type 1} → statement M
-write-tree-spec =
+pub write_tree_spec : {M : Type 1} → statement M
+write_tree_spec =
     tie.close
     (tie.spec
     (λ c κs. search rules)

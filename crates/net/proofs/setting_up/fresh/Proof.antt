@@ -4,8 +4,8 @@ use borrow.Author.Rules.{rules}
 use Rattle.net.proofs.setting_up.fresh.Statement.{statement}
 use Rattle.net.proofs.setting_up.fresh.Tie as tie
 
-pub fresh-spec : {M : Type 1} → statement M
-fresh-spec =
+pub fresh_spec : {M : Type 1} → statement M
+fresh_spec =
     tie.close
     (tie.spec
     (λ c κs. search rules)

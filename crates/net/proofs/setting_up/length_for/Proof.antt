@@ -4,8 +4,8 @@ use borrow.Author.Rules.{rules}
 use Rattle.net.proofs.setting_up.length_for.Statement.{statement}
 use Rattle.net.proofs.setting_up.length_for.Tie as tie
 
-pub length-for-spec : {M : Type 1} → statement M
-length-for-spec =
+pub length_for_spec : {M : Type 1} → statement M
+length_for_spec =
     tie.close
     (tie.spec
     (λ c κs. search rules)

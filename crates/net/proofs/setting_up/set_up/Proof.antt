@@ -4,8 +4,8 @@ use borrow.Author.Rules.{rules}
 use Rattle.net.proofs.setting_up.set_up.Statement.{statement}
 use Rattle.net.proofs.setting_up.set_up.Tie as tie
 
-pub set-up-spec : {M : Type 1} → statement M
-set-up-spec =
+pub set_up_spec : {M : Type 1} → statement M
+set_up_spec =
     tie.close
     (tie.spec
     (λ c κs. search rules)

@@ -4,8 +4,8 @@ use borrow.Author.Rules.{rules}
 use Rattle.net.proofs.setting_up.set_up_check.Statement.{statement}
 use Rattle.net.proofs.setting_up.set_up_check.Tie as tie
 
-pub set-up-check-spec : {M : Type 1} → statement M
-set-up-check-spec =
+pub set_up_check_spec : {M : Type 1} → statement M
+set_up_check_spec =
     tie.close
     (tie.spec
     (λ c κs. search rules)

@@ -15,8 +15,8 @@ invariant-loop from count threads end slot₀ slot = (from + count ≤ 64) × (l
 abbrev decreases-loop : tie.decreases-loop
 decreases-loop from count threads end slot₀ slot = end - slot
 
-pub free-slot-spec : {M : Type 1} → statement M
-free-slot-spec =
+pub free_slot_spec : {M : Type 1} → statement M
+free_slot_spec =
     tie.close
     (tie.spec invariant-loop decreases-loop
     (λ c. search rules)

@@ -4,8 +4,8 @@ use borrow.Author.Rules.{rules}
 use Rattle.net.proofs.slots.thread_at.Statement.{statement}
 use Rattle.net.proofs.slots.thread_at.Tie as tie
 
-pub thread-at-spec : {M : Type 1} → statement M
-thread-at-spec =
+pub thread_at_spec : {M : Type 1} → statement M
+thread_at_spec =
     tie.close
     (tie.spec
     (λ c. search rules)

@@ -10,8 +10,8 @@ invariant-loop tree ends₀ from left₀ ends left = Reading tree ends₀ from e
 abbrev decreases-loop : tie.decreases-loop
 decreases-loop tree ends₀ from left₀ ends left = left
 
-pub read-ends-spec : {M : Type 1} → statement M
-read-ends-spec =
+pub read_ends_spec : {M : Type 1} → statement M
+read_ends_spec =
     tie.close
     (tie.spec invariant-loop decreases-loop
     (λ c. search (rules, reading_none))

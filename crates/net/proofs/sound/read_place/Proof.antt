@@ -4,8 +4,8 @@ use borrow.Author.Rules.{rules}
 use Rattle.net.proofs.sound.read_place.Statement.{statement}
 use Rattle.net.proofs.sound.read_place.Tie as tie
 
-pub read-place-spec : {M : Type 1} → statement M
-read-place-spec =
+pub read_place_spec : {M : Type 1} → statement M
+read_place_spec =
     tie.close
     (tie.spec
     (λ c κs. search rules)

@@ -4,8 +4,8 @@ use borrow.Author.Rules.{rules}
 use Rattle.net.proofs.sound.slot_sound.Statement.{statement}
 use Rattle.net.proofs.sound.slot_sound.Tie as tie
 
-pub slot-sound-spec : {M : Type 1} → statement M
-slot-sound-spec =
+pub slot_sound_spec : {M : Type 1} → statement M
+slot_sound_spec =
     tie.close
     (tie.spec
     (λ c κs. search rules)

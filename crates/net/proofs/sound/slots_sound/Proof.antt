@@ -14,8 +14,8 @@ invariant-loop n places threads marks₀ ends₀ i₀ marks ends i = Passed (slo
 abbrev decreases-loop : tie.decreases-loop
 decreases-loop n places threads marks₀ ends₀ i₀ marks ends i = 64 - i
 
-pub slots-sound-spec : {M : Type 1} → statement M
-slots-sound-spec =
+pub slots_sound_spec : {M : Type 1} → statement M
+slots_sound_spec =
     tie.close
     (tie.spec invariant-loop decreases-loop
     (λ c. (search (rules, passed_none), table_none _))

@@ -4,8 +4,8 @@ use borrow.Author.Rules.{rules}
 use Rattle.net.proofs.sound.sound.Statement.{statement}
 use Rattle.net.proofs.sound.sound.Tie as tie
 
-pub sound-spec : {M : Type 1} → statement M
-sound-spec =
+pub sound_spec : {M : Type 1} → statement M
+sound_spec =
     tie.close
     (tie.spec
     (λ c. search (rules, sound_many))

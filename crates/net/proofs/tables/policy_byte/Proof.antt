@@ -4,8 +4,8 @@ use borrow.Author.Rules.{rules}
 use Rattle.net.proofs.tables.policy_byte.Statement.{statement}
 use Rattle.net.proofs.tables.policy_byte.Tie as tie
 
-pub policy-byte-spec : {M : Type 1} → statement M
-policy-byte-spec =
+pub policy_byte_spec : {M : Type 1} → statement M
+policy_byte_spec =
     tie.close
     (tie.spec
     (λ c κs. search rules)

@@ -14,8 +14,8 @@ invariant-loop bytes n table₀ i₀ table i = Filled (policy_byte bytes n) 512 
 abbrev decreases-loop : tie.decreases-loop
 decreases-loop bytes n table₀ i₀ table i = 512 - i
 
-pub policy-table-spec : {M : Type 1} → statement M
-policy-table-spec =
+pub policy_table_spec : {M : Type 1} → statement M
+policy_table_spec =
     tie.close
     (tie.spec invariant-loop decreases-loop
     (λ c. filled_none _ _ _ refl)

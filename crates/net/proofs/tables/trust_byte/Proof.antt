@@ -4,8 +4,8 @@ use borrow.Author.Rules.{rules}
 use Rattle.net.proofs.tables.trust_byte.Statement.{statement}
 use Rattle.net.proofs.tables.trust_byte.Tie as tie
 
-pub trust-byte-spec : {M : Type 1} → statement M
-trust-byte-spec =
+pub trust_byte_spec : {M : Type 1} → statement M
+trust_byte_spec =
     tie.close
     (tie.spec
     (λ c κs. search rules)

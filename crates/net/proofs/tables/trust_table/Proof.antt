@@ -14,8 +14,8 @@ invariant-loop bytes n table₀ i₀ table i = Filled (trust_byte bytes n) 256 t
 abbrev decreases-loop : tie.decreases-loop
 decreases-loop bytes n table₀ i₀ table i = 256 - i
 
-pub trust-table-spec : {M : Type 1} → statement M
-trust-table-spec =
+pub trust_table_spec : {M : Type 1} → statement M
+trust_table_spec =
     tie.close
     (tie.spec invariant-loop decreases-loop
     (λ c. filled_none _ _ _ refl)

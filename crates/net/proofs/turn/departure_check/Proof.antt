@@ -4,8 +4,8 @@ use borrow.Author.Rules.{rules}
 use Rattle.net.proofs.turn.departure_check.Statement.{statement}
 use Rattle.net.proofs.turn.departure_check.Tie as tie
 
-pub departure-check-spec : {M : Type 1} → statement M
-departure-check-spec =
+pub departure_check_spec : {M : Type 1} → statement M
+departure_check_spec =
     tie.close
     (tie.spec
     (λ c. search departures)

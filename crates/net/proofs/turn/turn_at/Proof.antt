@@ -4,8 +4,8 @@ use borrow.Author.Rules.{rules}
 use Rattle.net.proofs.turn.turn_at.Statement.{statement}
 use Rattle.net.proofs.turn.turn_at.Tie as tie
 
-pub turn-at-spec : {M : Type 1} → statement M
-turn-at-spec =
+pub turn_at_spec : {M : Type 1} → statement M
+turn_at_spec =
     tie.close
     (tie.spec
     (λ c κs. search rules)

@@ -4,8 +4,8 @@ use borrow.Author.Rules.{rules}
 use Rattle.net.proofs.turn.turn_of.Statement.{statement}
 use Rattle.net.proofs.turn.turn_of.Tie as tie
 
-pub turn-of-spec : {M : Type 1} → statement M
-turn-of-spec =
+pub turn_of_spec : {M : Type 1} → statement M
+turn_of_spec =
     tie.close
     (tie.spec
     (λ c κs. search rules)

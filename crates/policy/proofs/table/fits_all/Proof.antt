@@ -14,8 +14,8 @@ invariant-loop counts allowed i₀ i = (i ≤ 32) × (below i (fits_at counts al
 abbrev decreases-loop : tie.decreases-loop
 decreases-loop counts allowed i₀ i = 32 - i
 
-pub fits-all-spec : {M : Type 1} → statement M
-fits-all-spec =
+pub fits_all_spec : {M : Type 1} → statement M
+fits_all_spec =
     tie.close
     (tie.spec invariant-loop decreases-loop
     (λ c. search (rules, fits_start))

@@ -13,8 +13,8 @@ invariant-loop tree at n counts₀ k₀ left₀ counts k left = slip_counts tree
 abbrev decreases-loop : tie.decreases-loop
 decreases-loop tree at n counts₀ k₀ left₀ counts k left = left
 
-pub slip-counts-spec : {M : Type 1} → statement M
-slip-counts-spec =
+pub slip_counts_spec : {M : Type 1} → statement M
+slip_counts_spec =
     tie.close
     (tie.spec invariant-loop decreases-loop
     (λ c. search rules)

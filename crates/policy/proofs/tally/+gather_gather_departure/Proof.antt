@@ -68,8 +68,8 @@ departure-calls t = (
   nothing-read-reads.Learnt,
 )
 
-pub +gather-gather-departure-spec : {M : Type 1} → statement M
-+gather-gather-departure-spec =
+pub +gather_gather_departure_spec : {M : Type 1} → statement M
++gather_gather_departure_spec =
     close μ-gather μ-departure
     (λ t. gather-lts.spec (gather-calls t) (gather-at t) gather.Post
     (λ c κs. search ways)

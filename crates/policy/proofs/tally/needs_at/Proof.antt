@@ -4,5 +4,5 @@ use Rattle.policy.proofs.Verdicts.{n_whole}
 use Rattle.policy.proofs.tally.needs_at.Statement.{statement}
 use Rattle.policy.proofs.tally.needs_at.Tie as tie
 
-pub needs-at-spec : {M : Type 1} → statement M
-needs-at-spec = tie.close (tie.spec (λ c κs. search rules) (λ c. search (rules, n_whole)))
+pub needs_at_spec : {M : Type 1} → statement M
+needs_at_spec = tie.close (tie.spec (λ c κs. search rules) (λ c. search (rules, n_whole)))

@@ -4,8 +4,8 @@ use Rattle.policy.proofs.Verdicts.{c_unread, c_dishonest, c_passed, c_not}
 use Rattle.policy.proofs.test.test_code.Statement.{statement}
 use Rattle.policy.proofs.test.test_code.Tie as tie
 
-pub test-code-spec : {M : Type 1} → statement M
-test-code-spec =
+pub test_code_spec : {M : Type 1} → statement M
+test_code_spec =
     tie.close
     (tie.spec
     (λ c κs. search rules)

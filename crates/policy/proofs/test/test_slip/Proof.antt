@@ -4,5 +4,5 @@ use Rattle.policy.proofs.Verdicts.{s_tested}
 use Rattle.policy.proofs.test.test_slip.Statement.{statement}
 use Rattle.policy.proofs.test.test_slip.Tie as tie
 
-pub test-slip-spec : {M : Type 1} → statement M
-test-slip-spec = tie.close (tie.spec (λ c κs. search rules) (λ c κs. search rules) (λ c. search (rules, s_tested)))
+pub test_slip_spec : {M : Type 1} → statement M
+test_slip_spec = tie.close (tie.spec (λ c κs. search rules) (λ c κs. search rules) (λ c. search (rules, s_tested)))

@@ -4,8 +4,8 @@ use Rattle.program.proofs.Envelopes.{envelopes}
 use Rattle.program.proofs.envelope.body.Statement.{statement}
 use Rattle.program.proofs.envelope.body.Tie as tie
 
-pub body-spec : {M : Type 1} → statement M
-body-spec =
+pub body_spec : {M : Type 1} → statement M
+body_spec =
     tie.close
     (tie.spec
     (λ c. search rules)

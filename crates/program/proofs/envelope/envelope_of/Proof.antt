@@ -4,8 +4,8 @@ use Rattle.program.proofs.Envelopes.{envelopes}
 use Rattle.program.proofs.envelope.envelope_of.Statement.{statement}
 use Rattle.program.proofs.envelope.envelope_of.Tie as tie
 
-pub envelope-of-spec : {M : Type 1} → statement M
-envelope-of-spec =
+pub envelope_of_spec : {M : Type 1} → statement M
+envelope_of_spec =
     tie.close
     (tie.spec
     (λ c. search envelopes)

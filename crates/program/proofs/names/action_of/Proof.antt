@@ -3,5 +3,5 @@ use Rattle.program.proofs.Named.{named}
 use Rattle.program.proofs.names.action_of.Statement.{statement}
 use Rattle.program.proofs.names.action_of.Tie as tie
 
-pub action-of-spec : {M : Type 1} → statement M
-action-of-spec = tie.close (tie.spec (λ c. search named) (λ c. search named))
+pub action_of_spec : {M : Type 1} → statement M
+action_of_spec = tie.close (tie.spec (λ c. search named) (λ c. search named))

@@ -3,5 +3,5 @@ use Rattle.program.proofs.Named.{named}
 use Rattle.program.proofs.names.controller_of.Statement.{statement}
 use Rattle.program.proofs.names.controller_of.Tie as tie
 
-pub controller-of-spec : {M : Type 1} → statement M
-controller-of-spec = tie.close (tie.spec (λ c. search named) (λ c. search named) (λ c. search named))
+pub controller_of_spec : {M : Type 1} → statement M
+controller_of_spec = tie.close (tie.spec (λ c. search named) (λ c. search named) (λ c. search named))

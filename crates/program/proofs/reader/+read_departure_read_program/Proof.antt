@@ -41,8 +41,8 @@ read-departure-calls t = (head-at-reads.Asked, head-at-reads.Learnt, read-progra
 abbrev read-program-calls : ℕ → read-program-lts.Claims
 read-program-calls t = (start-at-reads.Asked, start-at-reads.Learnt, read-program-below t, read-program.Post, read-departure-below t, read-departure.Post)
 
-pub +read-departure-read-program-spec : {M : Type 1} → statement M
-+read-departure-read-program-spec =
+pub +read_departure_read_program_spec : {M : Type 1} → statement M
++read_departure_read_program_spec =
     close μ-read-departure μ-read-program
     (λ t. read-departure-lts.spec (read-departure-calls t) (read-departure-at t) read-departure.Post
     (λ c κs. search ways)

@@ -4,8 +4,8 @@ use Rattle.program.proofs.Starts.{starts}
 use Rattle.program.proofs.reader.start_at.Statement.{statement}
 use Rattle.program.proofs.reader.start_at.Tie as tie
 
-pub start-at-spec : {M : Type 1} → statement M
-start-at-spec =
+pub start_at_spec : {M : Type 1} → statement M
+start_at_spec =
     tie.close
     (tie.spec
     (λ c. search starts)

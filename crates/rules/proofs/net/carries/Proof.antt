@@ -4,5 +4,5 @@ use Rattle.rules.proofs.Issues.{has_none, has_own}
 use Rattle.rules.proofs.net.carries.Statement.{statement}
 use Rattle.rules.proofs.net.carries.Tie as tie
 
-pub carries-spec : {M : Type 1} → statement M
-carries-spec = tie.close (tie.spec (λ c. search (rules, has_none)) (λ c. search (rules, has_own (λ t. t.pass))))
+pub carries_spec : {M : Type 1} → statement M
+carries_spec = tie.close (tie.spec (λ c. search (rules, has_none)) (λ c. search (rules, has_own (λ t. t.pass))))

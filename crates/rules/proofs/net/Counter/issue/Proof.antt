@@ -18,8 +18,8 @@ invariant-candidates threads over₀ candidate₀ over candidate = Passing threa
 abbrev decreases-candidates : tie.decreases-candidates
 decreases-candidates threads over₀ candidate₀ over candidate = 65 - over
 
-pub issue-spec : {M : Type 1} → statement M
-issue-spec =
+pub issue_spec : {M : Type 1} → statement M
+issue_spec =
     tie.close
     (tie.spec invariant-loop decreases-loop invariant-candidates decreases-candidates
     (λ c κs. search rules)
