@@ -38,6 +38,7 @@ fits_byte c b = elim (count_is b) [ inl n ↦ rw n.1 (to c, from c n.0) | inr u 
   where
     to : (c : Count) → Fits c (finite b) → byte_of c ≤ b
     to (finite n) (enough h) = omega arith
+    to unlimited f = elim f [ ]
 
     from : (c : Count) → b < 255 → byte_of c ≤ b → Fits c (finite b)
     from (finite n) l h = enough {m = n} {n = b} (omega arith)

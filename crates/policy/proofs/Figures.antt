@@ -32,10 +32,13 @@ minus (finite n) unlimited = finite 0
 minus_fits : (e c d : Count) → Fits (join e c) d → Fits e (minus d c)
 minus_fits e c unlimited f = always
 minus_fits (finite n) (finite m) (finite k) (enough h) = enough {m = n} {n = k - m} (omega arith)
+minus_fits (finite n) unlimited (finite k) f = elim f [ ]
+minus_fits unlimited c (finite k) f = elim f [ ]
 
 minus_join : (c d : Count) → Fits c d → join (minus d c) c ≡ d
 minus_join c unlimited f = refl
 minus_join (finite m) (finite n) (enough h) = ap finite (omega arith)
+minus_join unlimited (finite n) f = elim f [ ]
 
 abbrev without : Policy → Policy → Policy
 without T U α = minus (T α) (U α)

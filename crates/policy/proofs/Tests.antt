@@ -25,6 +25,7 @@ fits_test c d = (to c d, from c d)
     from : (c d : Count) → Fits c d → T (fitsb c d)
     from c unlimited f = tt
     from (finite m) (finite n) (enough h) = le→leb m n h
+    from unlimited (finite n) f = elim f [ ]
 
 pub both_test : {A B : Type 0} (a b : Bool) → T a ↔ A → T b ↔ B → T (a && b) ↔ (A × B)
 both_test true b e f = (λ t. (e.0 tt, f.0 t), λ h. f.1 h.1)

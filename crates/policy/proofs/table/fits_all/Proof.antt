@@ -8,16 +8,16 @@ use Rattle.policy.proofs.Tables.{fits_start, fits_next, fits_not, fits_done}
 use Rattle.policy.proofs.table.fits_all.Statement.{statement}
 use Rattle.policy.proofs.table.fits_all.Tie as tie
 
-abbrev invariant-loop : tie.invariant-loop
-invariant-loop counts allowed i₀ i = (i ≤ 32) × (below i (fits_at counts allowed) ≡ true)
+abbrev invariant-loop-i : tie.invariant-loop-i
+invariant-loop-i counts allowed i₀ i = (i ≤ 32) × (below i (fits_at counts allowed) ≡ true)
 
-abbrev decreases-loop : tie.decreases-loop
-decreases-loop counts allowed i₀ i = 32 - i
+abbrev decreases-loop-i : tie.decreases-loop-i
+decreases-loop-i counts allowed i₀ i = 32 - i
 
 pub fits_all_spec : {M : Type 1} → statement M
 fits_all_spec =
     tie.close
-    (tie.spec invariant-loop decreases-loop
+    (tie.spec invariant-loop-i decreases-loop-i
     (λ c. search (rules, fits_start))
     (λ c. search rules)
     (λ c. search rules)

@@ -7,16 +7,16 @@ use Rattle.policy.proofs.Tables.{counts_done, counts_past, counts_cut, counts_ba
 use Rattle.policy.proofs.table.slip_counts.Statement.{statement}
 use Rattle.policy.proofs.table.slip_counts.Tie as tie
 
-abbrev invariant-loop : tie.invariant-loop
-invariant-loop tree at n counts₀ k₀ left₀ counts k left = slip_counts tree n at none ≡ slip_counts tree left k counts
+abbrev invariant-loop-left : tie.invariant-loop-left
+invariant-loop-left tree at n counts₀ k₀ left₀ counts k left = slip_counts tree n at none ≡ slip_counts tree left k counts
 
-abbrev decreases-loop : tie.decreases-loop
-decreases-loop tree at n counts₀ k₀ left₀ counts k left = left
+abbrev decreases-loop-left : tie.decreases-loop-left
+decreases-loop-left tree at n counts₀ k₀ left₀ counts k left = left
 
 pub slip_counts_spec : {M : Type 1} → statement M
 slip_counts_spec =
     tie.close
-    (tie.spec invariant-loop decreases-loop
+    (tie.spec invariant-loop-left decreases-loop-left
     (λ c. search rules)
     (λ c. search (rules, counts_past))
     (λ c. search rules)
