@@ -7,7 +7,7 @@ use rules::{ControllerField, Fields, NameField, PassField, Refusal, Reply};
 
 // A field of a reply: present is 1 where it is there; where it is absent both are 0.
 #[repr(C)]
-#[derive(Drop)]
+#[derive(Clone, Copy)]
 pub struct Shown {
     pub present: u8,
     pub value: u16,
@@ -15,7 +15,7 @@ pub struct Shown {
 
 // The document's number, the number of passes passed over, and the fields of the listing.
 #[repr(C)]
-#[derive(Drop)]
+#[derive(Clone, Copy)]
 pub struct Answer {
     pub number: u8,
     pub over: u8,

@@ -8,7 +8,7 @@ use net::{launch, set_up, step};
 use program::Controller;
 use rules::Net;
 
-#[derive(Drop)]
+#[derive(Clone, Copy)]
 pub struct Told {
     pub answer: Answer,
     pub net: Net,

@@ -1,14 +1,14 @@
 // Bytes from standard input, in buffers of fixed size.
 ghost use Rattle.std.specs.Prelude.{◌<◌};
 
-#[derive(Drop)]
+#[derive(Clone, Copy)]
 pub enum Byte {
     Is(u8),
     None,
 }
 
 // How much of an envelope came: all of it; its two length bytes, which are out of range; or less than it says.
-#[derive(Drop)]
+#[derive(Clone, Copy)]
 pub enum Came {
     Whole,
     OutOfRange,
@@ -16,7 +16,7 @@ pub enum Came {
 }
 
 // The bytes that came, the first `len` of them.
-#[derive(Drop)]
+#[derive(Clone, Copy)]
 pub struct Envelope {
     pub bytes: [u8; 772],
     pub len: usize,

@@ -2,7 +2,7 @@
 use crate::input::beginning;
 use diverter::{Answer, Shown};
 
-#[derive(Drop)]
+#[derive(Clone, Copy)]
 pub struct Line {
     pub bytes: [u8; 80],
     pub len: usize,

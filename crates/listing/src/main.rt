@@ -11,7 +11,7 @@ use program::Controller;
 use rules::{Counter, Net, Thread};
 
 // The net, the number of the next command, and whether there is more to list.
-#[derive(Drop)]
+#[derive(Clone, Copy)]
 struct Hall {
     net: Net,
     no: u64,

@@ -8,13 +8,13 @@ use program::Controller;
 use rules::Refusal;
 
 // What a test answers: the first row that holds, if one holds.
-#[derive(Drop)]
+#[derive(Clone, Copy)]
 pub enum Check {
     Passes,
     Refuses(Refusal),
 }
 
-#[derive(Drop)]
+#[derive(Clone, Copy)]
 pub enum Look {
     BytesOnly,
     TheSlip,

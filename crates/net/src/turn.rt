@@ -12,7 +12,7 @@ use program::{Action, Controller, Departure, Node, node_at};
 use rules::{Net, Refusal, Thread};
 
 // Positions of the programs inside the node, and the lowest free slot where one is needed.
-#[derive(Drop)]
+#[derive(Clone, Copy)]
 pub enum Turn {
     Refuses(Refusal),
     Ends,

@@ -10,7 +10,7 @@ use program::{Head, Start, head_at, start_at};
 
 // Of a whole program: the offset after it, whether it is honest, and its need of each name, 255 for unlimited and for a number above
 // 254, which fits the same. Where none can be read, `read` is false and the rest is zero.
-#[derive(Drop)]
+#[derive(Clone, Copy)]
 pub struct Tally {
     pub read: bool,
     pub end: usize,

@@ -8,7 +8,7 @@ use crate::table::{fits_all, slip_counts};
 use crate::tally::needs_at;
 
 // What the test of code answers; Unread where no whole program stands.
-#[derive(Drop)]
+#[derive(Clone, Copy)]
 pub enum Tested {
     Passed,
     NotHonest,

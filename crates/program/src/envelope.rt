@@ -3,7 +3,7 @@ ghost use Rattle.std.specs.Prelude.{◌≡◌, ◌<◌, drop};
 ghost use Rattle.program.specs.Envelope.{envelope};
 
 // Right, or why not: fewer bytes than are wanted (1), a length out of range or bytes beyond it (2), another version (3).
-#[derive(Drop)]
+#[derive(Clone, Copy)]
 pub enum Envelope {
     Right,
     Fewer,

@@ -3,21 +3,21 @@ ghost use Rattle.std.specs.Prelude.{◌≡◌};
 ghost use Rattle.program.specs.Names.{action_byte, controller_byte};
 
 // An action, 0 to 15.
-#[derive(Drop)]
+#[derive(Clone, Copy)]
 pub struct Action(pub u8);
 
 // A controller, 16 to 31 in a program; a free slot has 0, and a launch may name any: whoever uses one tests it.
 #[repr(C)]
-#[derive(Drop)]
+#[derive(Clone, Copy)]
 pub struct Controller(pub u8);
 
-#[derive(Drop)]
+#[derive(Clone, Copy)]
 pub enum ActionByte {
     Is(Action),
     Not,
 }
 
-#[derive(Drop)]
+#[derive(Clone, Copy)]
 pub enum ControllerByte {
     Is(Controller),
     Not,

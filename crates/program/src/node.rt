@@ -6,7 +6,7 @@ use crate::names::Action;
 use crate::reader::{Departure, Head, Read, Start, head_at, read_program, start_at};
 
 // A node, with the positions of the programs inside it; Nothing where none can be read.
-#[derive(Drop)]
+#[derive(Clone, Copy)]
 pub enum Node {
     End,
     Act(Action, usize),

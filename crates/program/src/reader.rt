@@ -7,7 +7,7 @@ use crate::names::{Action, ActionByte, Controller, ControllerByte, action_of, co
 
 // What reading finds: all of it, with the offset after it; the bytes' end before that; or a byte, at this offset, with no
 // meaning at its place.
-#[derive(Drop)]
+#[derive(Clone, Copy)]
 pub enum Read {
     Whole(usize),
     Cut,
@@ -15,7 +15,7 @@ pub enum Read {
 }
 
 // What a node's first byte says, and an act's action; each with where the rest of the node begins.
-#[derive(Drop)]
+#[derive(Clone, Copy)]
 pub enum Start {
     End(usize),
     Act(Action, usize),
@@ -27,7 +27,7 @@ pub enum Start {
 }
 
 // A departure's own bytes: its controller, where its slip's entries stand, how many they are, and where the carried program begins.
-#[derive(Drop)]
+#[derive(Clone, Copy)]
 pub struct Departure {
     pub controller: Controller,
     pub slip: usize,
@@ -35,7 +35,7 @@ pub struct Departure {
     pub carried: usize,
 }
 
-#[derive(Drop)]
+#[derive(Clone, Copy)]
 pub enum Head {
     Whole(Departure),
     Cut,

@@ -16,6 +16,7 @@ true_T {b} t = go b t
   where
     go : (b : Bool) → T b → b ≡ true
     go true t = refl
+    go false t = elim t [ ]
 
 pub T_true : {b : Bool} → b ≡ true → T b
 T_true e = rw e tt
@@ -25,6 +26,7 @@ not_T {b} t = go b t
   where
     go : (b : Bool) → T (not b) → b ≡ false
     go false t = refl
+    go true t = elim t [ ]
 
 pub T_not : {b : Bool} → b ≡ false → T (not b)
 T_not e = rw e tt

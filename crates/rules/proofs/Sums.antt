@@ -38,7 +38,7 @@ pull f (suc n) i h = ⊎_elim last (early (pull f n i)) (eq-or-lt_of_le (le_of h
     le_of h = omega arith
 
     last : i ≡ n → sum f (suc n) ≡ join (f i) (sum (put f i (finite 0)) (suc n))
-    last e = rw e (ap (join (f n)) (sum_ext f (put f n (finite 0)) n (λ j l. sym (put_other f n (finite 0) j (λ e. omega arith))) ∙ sym (zero_join _) ∙ ap (λ c. join c (sum (put f n (finite 0)) n)) (sym (put_same f n (finite 0)))))
+    last e = subst (λ (k : ℕ). sum f (suc n) ≡ join (f k) (sum (put f k (finite 0)) (suc n))) (sym e) (ap (join (f n)) (sum_ext f (put f n (finite 0)) n (λ j l. sym (put_other f n (finite 0) j (λ e. omega arith))) ∙ sym (zero_join _) ∙ ap (λ c. join c (sum (put f n (finite 0)) n)) (sym (put_same f n (finite 0)))))
 
     early : (i < n → sum f n ≡ join (f i) (sum (put f i (finite 0)) n)) → i < n → sum f (suc n) ≡ join (f i) (sum (put f i (finite 0)) (suc n))
     early more l =

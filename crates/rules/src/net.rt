@@ -8,7 +8,7 @@ use program::Controller;
 
 // A running thread: its place, its position in the place's tree, where it stands, and its stay's pass. A free slot is all zero.
 #[repr(C)]
-#[derive(Drop)]
+#[derive(Clone, Copy)]
 pub struct Thread {
     pub place: u8,
     pub position: u16,
@@ -18,7 +18,7 @@ pub struct Thread {
 
 // The last pass issued.
 #[repr(C)]
-#[derive(Drop)]
+#[derive(Clone, Copy)]
 pub struct Counter {
     pub last: u16,
 }
@@ -34,7 +34,7 @@ fn carries(t: Thread, pass: u16) -> bool
 }
 
 // A new pass, the counter that has issued it, and how many numbers were passed over.
-#[derive(Drop)]
+#[derive(Clone, Copy)]
 pub struct Issued {
     pub pass: u16,
     pub counter: Counter,
@@ -73,7 +73,7 @@ impl Counter {
 
 // Trust has rows of 16 (who trusts), policies have rows of 32 counts, both zero beyond n; places follow each other.
 #[repr(C)]
-#[derive(Drop)]
+#[derive(Clone, Copy)]
 pub struct Net {
     pub n: u8,
     pub trust: [u8; 256],

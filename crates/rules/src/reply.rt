@@ -3,19 +3,19 @@ use crate::net::Net;
 use program::{Action, Controller};
 
 // A field of a done reply, present or absent.
-#[derive(Drop)]
+#[derive(Clone, Copy)]
 pub enum PassField {
     Is(u16),
     Absent,
 }
 
-#[derive(Drop)]
+#[derive(Clone, Copy)]
 pub enum ControllerField {
     Is(Controller),
     Absent,
 }
 
-#[derive(Drop)]
+#[derive(Clone, Copy)]
 pub enum NameField {
     Acted(Action),
     Went(Controller),
@@ -23,7 +23,7 @@ pub enum NameField {
 }
 
 // Pass of the acting stay, its controller, the name used, the new pass; and the number of passes passed over.
-#[derive(Drop)]
+#[derive(Clone, Copy)]
 pub struct Fields {
     pub pass: PassField,
     pub controller: ControllerField,
@@ -33,7 +33,7 @@ pub struct Fields {
 }
 
 // The rows of the table: 1 to 16 in their order, and 99.
-#[derive(Drop)]
+#[derive(Clone, Copy)]
 pub enum Refusal {
     Fewer,
     Length,
@@ -54,13 +54,13 @@ pub enum Refusal {
     NotSound,
 }
 
-#[derive(Drop)]
+#[derive(Clone, Copy)]
 pub enum Reply {
     Done(Fields),
     Refused(Refusal),
 }
 
-#[derive(Drop)]
+#[derive(Clone, Copy)]
 pub struct Outcome {
     pub reply: Reply,
     pub net: Net,
