@@ -5,16 +5,16 @@ use borrow.Author.Rules.{rules}
 use Rattle.net.proofs.places.fill.Statement.{statement}
 use Rattle.net.proofs.places.fill.Tie as tie
 
-abbrev invariant-loop : tie.invariant-loop
-invariant-loop places₀ from tree i₀ places i = Writing places₀ from tree places i
+abbrev invariant-loop-i : tie.invariant-loop-i
+invariant-loop-i places₀ from tree i₀ places i = Writing places₀ from tree places i
 
-abbrev decreases-loop : tie.decreases-loop
-decreases-loop places₀ from tree i₀ places i = 384 - i
+abbrev decreases-loop-i : tie.decreases-loop-i
+decreases-loop-i places₀ from tree i₀ places i = 384 - i
 
 pub fill_spec : {M : Type 1} → statement M
 fill_spec =
     tie.close
-    (tie.spec invariant-loop decreases-loop
+    (tie.spec invariant-loop-i decreases-loop-i
     (λ c. search (rules, writing_none))
     (λ c κs. search rules)
     (λ c. search rules)

@@ -9,16 +9,16 @@ use borrow.Author.Rules.{rules}
 use Rattle.net.proofs.slots.free_slot.Statement.{statement}
 use Rattle.net.proofs.slots.free_slot.Tie as tie
 
-abbrev invariant-loop : tie.invariant-loop
-invariant-loop from count threads end slot₀ slot = (from + count ≤ 64) × (length threads ≡ 64) × Sought (λ slot. free (get_or threads slot zero_thread)) from count end slot
+abbrev invariant-loop-slot : tie.invariant-loop-slot
+invariant-loop-slot from count threads end slot₀ slot = (from + count ≤ 64) × (length threads ≡ 64) × Sought (λ slot. free (get_or threads slot zero_thread)) from count end slot
 
-abbrev decreases-loop : tie.decreases-loop
-decreases-loop from count threads end slot₀ slot = end - slot
+abbrev decreases-loop-slot : tie.decreases-loop-slot
+decreases-loop-slot from count threads end slot₀ slot = end - slot
 
 pub free_slot_spec : {M : Type 1} → statement M
 free_slot_spec =
     tie.close
-    (tie.spec invariant-loop decreases-loop
+    (tie.spec invariant-loop-slot decreases-loop-slot
     (λ c. search rules)
     (λ c. search (rules, sought_all))
     (λ c. search rules)

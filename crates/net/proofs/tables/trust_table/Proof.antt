@@ -8,16 +8,16 @@ use borrow.Author.Rules.{rules}
 use Rattle.net.proofs.tables.trust_table.Statement.{statement}
 use Rattle.net.proofs.tables.trust_table.Tie as tie
 
-abbrev invariant-loop : tie.invariant-loop
-invariant-loop bytes n table₀ i₀ table i = Filled (trust_byte bytes n) 256 table i
+abbrev invariant-loop-i : tie.invariant-loop-i
+invariant-loop-i bytes n table₀ i₀ table i = Filled (trust_byte bytes n) 256 table i
 
-abbrev decreases-loop : tie.decreases-loop
-decreases-loop bytes n table₀ i₀ table i = 256 - i
+abbrev decreases-loop-i : tie.decreases-loop-i
+decreases-loop-i bytes n table₀ i₀ table i = 256 - i
 
 pub trust_table_spec : {M : Type 1} → statement M
 trust_table_spec =
     tie.close
-    (tie.spec invariant-loop decreases-loop
+    (tie.spec invariant-loop-i decreases-loop-i
     (λ c. filled_none _ _ _ refl)
     (λ c κs. search rules)
     (λ c. search rules)
