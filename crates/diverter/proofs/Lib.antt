@@ -1,3 +1,2 @@
 -- The laws of replies as numbers, and what the walks of the calls by `&mut` share.
 pub mod Replies
-mod Lent
