@@ -1,5 +1,8 @@
 // Bytes from standard input, in buffers of fixed size.
-ghost use Rattle.std.specs.Prelude.{◌<◌};
+ghost use Rattle.std.specs.Prelude.{◌<◌, ◌≤◌, IfOk, length};
+
+use std::io;
+use std::io::Read;
 
 #[derive(Clone, Copy)]
 pub enum Byte {
@@ -23,13 +26,28 @@ pub struct Envelope {
     pub came: Came,
 }
 
-pub fn read_byte() -> Byte {
+// Reads until `bytes` are full or the input ends, and says how many came.
+fn read_full<R: Read>(input: &mut R, bytes: &mut [u8]) -> io::Result<usize>
+    ensures { IfOk result (λ n. n ≤ length bytes.new) }
+{
+    let mut done = 0;
+    while done < bytes.len() {
+        let got = input.read(&mut bytes[done..])?;
+        if got == 0 {
+            break;
+        }
+        done += got;
+    }
+    Ok(done)
+}
+
+pub fn read_byte<R: Read>(input: &mut R) -> io::Result<Byte> {
     let mut one = [0u8; 1];
-    let got = io::read_full(0, &mut one);
+    let got = read_full(input, &mut one)?;
     if got == 1 {
-        Byte::Is(one[0])
+        Ok(Byte::Is(one[0]))
     } else {
-        Byte::None
+        Ok(Byte::None)
     }
 }
 
@@ -49,54 +67,54 @@ pub fn beginning(bytes: &[u8], len: usize) -> &[u8] {
 }
 
 // Fills the bytes from `from` up to `to`, as far as the input goes, and says how many came.
-fn fill(bytes: &mut [u8], from: usize, to: usize) -> usize {
+fn fill<R: Read>(input: &mut R, bytes: &mut [u8], from: usize, to: usize) -> io::Result<usize> {
     if to <= bytes.len() {
         if from <= to {
-            return io::read_full(0, &mut bytes[from..to]);
+            return read_full(input, &mut bytes[from..to]);
         }
     }
-    0
+    Ok(0)
 }
 
 // An envelope whose length may be 2 to `most`, at most 770; of one that is out of range no more is read.
-pub fn read_envelope(most: usize) -> Envelope {
+pub fn read_envelope<R: Read>(input: &mut R, most: usize) -> io::Result<Envelope> {
     let mut bytes = [0u8; 772];
-    let first = fill(&mut bytes, 0, 2);
+    let first = fill(input, &mut bytes, 0, 2)?;
     if first < 2 {
-        return Envelope {
+        return Ok(Envelope {
             bytes,
             len: first,
             came: Came::Cut,
-        };
+        });
     }
     let stated = 256 * wide(bytes[0]) + wide(bytes[1]);
     if stated < 2 {
-        return Envelope {
+        return Ok(Envelope {
             bytes,
             len: 2,
             came: Came::OutOfRange,
-        };
+        });
     }
     if most < stated {
-        return Envelope {
+        return Ok(Envelope {
             bytes,
             len: 2,
             came: Came::OutOfRange,
-        };
+        });
     }
     let end = 2 + stated;
-    let got = fill(&mut bytes, 2, end);
+    let got = fill(input, &mut bytes, 2, end)?;
     if got < stated {
-        Envelope {
+        Ok(Envelope {
             bytes,
             len: 2 + got,
             came: Came::Cut,
-        }
+        })
     } else {
-        Envelope {
+        Ok(Envelope {
             bytes,
             len: end,
             came: Came::Whole,
-        }
+        })
     }
 }

@@ -1,6 +1,8 @@
 // A line of the listing: fields parted by one blank, `-` for none, a newline at the end.
 use crate::input::beginning;
 use diverter::{Answer, Shown};
+use std::io;
+use std::io::Write;
 
 #[derive(Clone, Copy)]
 pub struct Line {
@@ -37,7 +39,7 @@ fn with_field(line: Line, shown: Shown) -> Line {
     }
 }
 
-pub fn print_line(no: u64, answer: Answer) {
+pub fn print_line<W: Write>(output: &mut W, no: u64, answer: Answer) -> io::Result<()> {
     let empty = Line {
         bytes: [0; 80],
         len: 0,
@@ -55,5 +57,5 @@ pub fn print_line(no: u64, answer: Answer) {
     let line = with_byte(shown, 10);
     let len = line.len;
     let bytes = line.bytes;
-    io::write_all(1, beginning(&bytes, len));
+    output.write_all(beginning(&bytes, len))
 }

@@ -9,6 +9,8 @@ use input::{Byte, Came, beginning, read_byte, read_envelope};
 use line::print_line;
 use program::Controller;
 use rules::{Counter, Net, Thread};
+use std::io;
+use std::io::{Read, Write};
 
 // The net, the number of the next command, and whether there is more to list.
 #[derive(Clone, Copy)]
@@ -37,19 +39,19 @@ fn empty() -> Net {
 }
 
 // The set-up has its line, however much of it came; the listing goes on where it is done.
-fn begin() -> Hall {
-    let given = read_envelope(770);
+fn begin<R: Read, W: Write>(input: &mut R, output: &mut W) -> io::Result<Hall> {
+    let given = read_envelope(input, 770)?;
     let len = given.len;
     let bytes = given.bytes;
     let told = set_up_via(empty(), beginning(&bytes, len));
     let answer = told.answer;
     let net = told.net;
-    print_line(0, answer);
-    Hall {
+    print_line(output, 0, answer)?;
+    Ok(Hall {
         net,
         no: 1,
         on: answer.number == 0,
-    }
+    })
 }
 
 fn stopped(hall: Hall) -> Hall {
@@ -62,14 +64,14 @@ fn stopped(hall: Hall) -> Hall {
 }
 
 // A launch that is cut has no line; one whose length is out of range has its line, and the listing stops.
-fn launch(hall: Hall) -> Hall {
-    let Byte::Is(at) = read_byte() else {
-        return stopped(hall);
+fn launch<R: Read, W: Write>(input: &mut R, output: &mut W, hall: Hall) -> io::Result<Hall> {
+    let Byte::Is(at) = read_byte(input)? else {
+        return Ok(stopped(hall));
     };
-    let given = read_envelope(385);
+    let given = read_envelope(input, 385)?;
     let came = given.came;
     if let Came::Cut = came {
-        return stopped(hall);
+        return Ok(stopped(hall));
     }
     let len = given.len;
     let bytes = given.bytes;
@@ -77,60 +79,64 @@ fn launch(hall: Hall) -> Hall {
     let told = launch_via(net, at, beginning(&bytes, len));
     let answer = told.answer;
     let after = told.net;
-    print_line(hall.no, answer);
+    print_line(output, hall.no, answer)?;
     let on = if let Came::Whole = came { true } else { false };
-    Hall {
+    Ok(Hall {
         net: after,
         no: next(hall.no),
         on,
-    }
+    })
 }
 
-fn step(hall: Hall) -> Hall {
-    let Byte::Is(slot) = read_byte() else {
-        return stopped(hall);
+fn step<R: Read, W: Write>(input: &mut R, output: &mut W, hall: Hall) -> io::Result<Hall> {
+    let Byte::Is(slot) = read_byte(input)? else {
+        return Ok(stopped(hall));
     };
     let net = hall.net;
     let told = step_via(net, slot as usize);
     let answer = told.answer;
     let after = told.net;
-    print_line(hall.no, answer);
-    Hall {
+    print_line(output, hall.no, answer)?;
+    Ok(Hall {
         net: after,
         no: next(hall.no),
         on: true,
-    }
+    })
 }
 
 fn next(no: u64) -> u64 {
     std::num::wrapping_add_u64(no, 1)
 }
 
-fn command(hall: Hall) -> Hall {
-    let Byte::Is(kind) = read_byte() else {
-        return stopped(hall);
+fn command<R: Read, W: Write>(input: &mut R, output: &mut W, hall: Hall) -> io::Result<Hall> {
+    let Byte::Is(kind) = read_byte(input)? else {
+        return Ok(stopped(hall));
     };
     match kind {
-        1 => launch(hall),
-        2 => step(hall),
-        _ => stopped(hall),
+        1 => launch(input, output, hall),
+        2 => step(input, output, hall),
+        _ => Ok(stopped(hall)),
     }
 }
 
 // A proved loop has to end, and nothing says that the input does: so it counts its turns down, from a number that no run uses up.
-fn list(begun: Hall) {
+fn list<R: Read, W: Write>(input: &mut R, output: &mut W, begun: Hall) -> io::Result<()> {
     let mut hall = begun;
     let mut turns = u64::MAX;
     while 0 < turns {
         if !hall.on {
-            return;
+            return Ok(());
         }
-        hall = command(hall);
+        hall = command(input, output, hall)?;
         turns -= 1;
     }
+    Ok(())
 }
 
-fn main() {
-    io::write_all(1, b"no reply pass controller name new\n");
-    list(begin());
+fn main(rt: HostRuntime) -> io::Result<()> {
+    let mut input = rt.stdin();
+    let mut output = rt.stdout();
+    output.write_all(b"no reply pass controller name new\n")?;
+    let begun = begin(&mut input, &mut output)?;
+    list(&mut input, &mut output, begun)
 }

@@ -1,0 +1,9 @@
+-- What came fits the bytes, and at each turn more has come.
+use Rattle.std.proofs.Common.{length, ◌-◌, ◌≤◌}
+use Rattle.listing.proofs.input.read_full.Given as goal
+
+abbrev pub invariant-loop-done : goal.invariant-loop-done
+invariant-loop-done g l = l.done ≤ length l.bytes
+
+abbrev pub decreases-loop-done : goal.decreases-loop-done
+decreases-loop-done g l = length l.initial.bytes - l.done
