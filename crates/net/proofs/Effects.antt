@@ -33,24 +33,24 @@ use Rattle.net.specs.declared.entry.Check.{Check}
 use Rattle.net.specs.declared.entry.Check.TheVariants.{Passes, Refuses}
 use Rattle.net.specs.declared.turn.Turn.{Turn}
 use Rattle.net.specs.declared.turn.Turn.TheVariants as turn
-use Rattle.net.specs.Checks.{first_of, concluded}
+use Rattle.net.specs.Checks.{first_row, concluded}
 use Rattle.net.specs.Turns.{unless, turn_by, turned, done_by, arrived, shows}
 
 -- ROWS: the first that holds decides, and where none refuses none holds
-pub answer_is : (rows : List Row) (net : Net) (done : Outcome) → answer rows net done ≡ concluded (first_of rows) net done
+pub answer_is : (rows : List Row) (net : Net) (done : Outcome) → answer rows net done ≡ concluded (first_row rows) net done
 answer_is [] net done = refl
 answer_is (test gives r ∷ rows) net done = go test (answer_is rows net done)
   where
-    go : (b : Bool) → answer rows net done ≡ concluded (first_of rows) net done →
-        cond b (concluded (Refuses r) net done) (answer rows net done) ≡ concluded (cond b (Refuses r) (first_of rows)) net done
+    go : (b : Bool) → answer rows net done ≡ concluded (first_row rows) net done →
+        cond b (concluded (Refuses r) net done) (answer rows net done) ≡ concluded (cond b (Refuses r) (first_row rows)) net done
     go true rest = refl
     go false rest = rest
 
-pub none_holds : (rows : List Row) → first_of rows ≡ Passes → NoneHolds rows
+pub none_holds : (rows : List Row) → first_row rows ≡ Passes → NoneHolds rows
 none_holds [] e = tt
 none_holds (test gives r ∷ rows) e = go test refl e (none_holds rows)
   where
-    go : (b : Bool) → test ≡ b → cond b (Refuses r) (first_of rows) ≡ Passes → (first_of rows ≡ Passes → NoneHolds rows) → (test ≡ false) × NoneHolds rows
+    go : (b : Bool) → test ≡ b → cond b (Refuses r) (first_row rows) ≡ Passes → (first_row rows ≡ Passes → NoneHolds rows) → (test ≡ false) × NoneHolds rows
     go true t e more = let z : ◌≡◌ {A = ℕ} 0 1 = cc in absurd (omega arith)
     go false t e more = (t, more e)
 
@@ -84,7 +84,7 @@ module _ (net : Net) (slot : ℕ) where
 
   step_is : called net (step slot) ≡ done_by net slot (thread_at net slot) (turned net slot)
   unfolding turned done_of
-  step_is = answer_is (rows_of net (step slot)) net (done_of net (step slot)) ∙ by_check (first_of (rows_of net (step slot))) (thread_at net slot) (program_at net (thread_at net slot))
+  step_is = answer_is (rows_of net (step slot)) net (done_of net (step slot)) ∙ by_check (first_row (rows_of net (step slot))) (thread_at net slot) (program_at net (thread_at net slot))
 
   -- each way of the code: x is the turn, t the thread, reply what is shown of it
   module _ {x : Turn} (i : x ≡ turned net slot) where

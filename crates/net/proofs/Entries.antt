@@ -22,7 +22,7 @@ use Rattle.net.specs.declared.entry.Check.TheVariants.{Passes, Refuses}
 use Rattle.net.specs.declared.entry.Look.{Look}
 use Rattle.net.specs.declared.entry.Look.TheVariants.{BytesOnly, TheSlip, TheCode}
 use Rattle.net.specs.Parts.{trust_in}
-use Rattle.net.specs.Checks.{first_of, launch_look, entry_look, of_slip, of_code, entered}
+use Rattle.net.specs.Checks.{first_row, launch_look, entry_look, of_slip, of_code, entered}
 
 -- what is looked at
 module _ (trust : List ℕ) (k l : Controller) {a : ℕ} (i : a ≡ trust_in trust k l) where
@@ -82,15 +82,15 @@ slip_rows false = refl
 slip_rows true = refl
 
 module _ (policy tree : List ℕ) (slip n code : ℕ) {p : Program} {m : ℕ} (read : read_at tree code ≡ whole p m) where
-  code_is : (s : Slip) → entered TheCode policy tree slip n code ≡ first_of (entry_rows the_code (policy_allows policy) s p)
+  code_is : (s : Slip) → entered TheCode policy tree slip n code ≡ first_row (entry_rows the_code (policy_allows policy) s p)
   code_is s = ap (λ o. of_code (test_of (policy_allows policy) o)) read ∙ code_rows (honestb p) (fits_allb (policy_allows policy) p)
 
   -- a launch
   pub launch_rows_lem : (trust : List ℕ) (c : Controller) →
-      entered (launch_look trust c) policy tree slip n code ≡ first_of (entry_rows (cond (eqb (trust_in trust c c) 1) the_code bytes_only) (policy_allows policy) [] p)
+      entered (launch_look trust c) policy tree slip n code ≡ first_row (entry_rows (cond (eqb (trust_in trust c c) 1) the_code bytes_only) (policy_allows policy) [] p)
   launch_rows_lem trust c = go (eqb (trust_in trust c c) 1)
     where
-      go : (b : Bool) → entered (cond b TheCode BytesOnly) policy tree slip n code ≡ first_of (entry_rows (cond b the_code bytes_only) (policy_allows policy) [] p)
+      go : (b : Bool) → entered (cond b TheCode BytesOnly) policy tree slip n code ≡ first_row (entry_rows (cond b the_code bytes_only) (policy_allows policy) [] p)
       go true = code_is []
       go false = refl
 
@@ -98,9 +98,9 @@ module _ (policy tree : List ℕ) (slip n code : ℕ) {p : Program} {m : ℕ} (r
 pub depart_rows : (policy tree : List ℕ) (k code : ℕ) {p : Program} {m : ℕ} {c : Controller} (slip : Slip) {e : ℕ} → head_at tree k ≡ whole (c, slip) e →
     read_at tree code ≡ whole p m → (trust : List ℕ) (target present : Controller) →
     entered (entry_look trust target present) policy tree (k + 1 + 1) (length slip) code
-    ≡ first_of (entry_rows (cond (eqb (trust_in trust target present) 1) the_slip the_code) (policy_allows policy) slip p)
+    ≡ first_row (entry_rows (cond (eqb (trust_in trust target present) 1) the_slip the_code) (policy_allows policy) slip p)
 depart_rows policy tree k code {p} {m} slip {e} head read trust target present = go (eqb (trust_in trust target present) 1)
   where
-    go : (b : Bool) → entered (cond b TheSlip TheCode) policy tree (k + 1 + 1) (length slip) code ≡ first_of (entry_rows (cond b the_slip the_code) (policy_allows policy) slip p)
+    go : (b : Bool) → entered (cond b TheSlip TheCode) policy tree (k + 1 + 1) (length slip) code ≡ first_row (entry_rows (cond b the_slip the_code) (policy_allows policy) slip p)
     go true = ap of_slip (slip_fits tree k e slip head policy) ∙ slip_rows (slip_fitsb (policy_allows policy) slip)
     go false = code_is policy tree (k + 1 + 1) (length slip) code read slip

@@ -38,7 +38,7 @@ use Rattle.net.specs.declared.entry.Check.{Check}
 use Rattle.net.specs.declared.entry.Check.TheVariants.{Passes, Refuses}
 use Rattle.net.specs.declared.entry.Look.{Look}
 use Rattle.net.specs.Parts.{stands_in, policy_in}
-use Rattle.net.specs.Checks.{first_of, concluded, launch_look, entered}
+use Rattle.net.specs.Checks.{first_row, concluded, launch_look, entered}
 use Rattle.net.proofs.Entries.{launch_rows_lem}
 use Rattle.net.proofs.Effects.{answer_is, none_holds}
 
@@ -47,27 +47,27 @@ abbrev pub or_else : Check → Check → Check
 or_else Passes more = more
 or_else (Refuses r) more = Refuses r
 
-pub first_append : (rows more : List Row) → first_of (rows ++ more) ≡ or_else (first_of rows) (first_of more)
+pub first_append : (rows more : List Row) → first_row (rows ++ more) ≡ or_else (first_row rows) (first_row more)
 first_append [] more = refl
 first_append (test gives r ∷ rows) more = go test (first_append rows more)
   where
-    go : (b : Bool) → first_of (rows ++ more) ≡ or_else (first_of rows) (first_of more) →
-        cond b (Refuses r) (first_of (rows ++ more)) ≡ or_else (cond b (Refuses r) (first_of rows)) (first_of more)
+    go : (b : Bool) → first_row (rows ++ more) ≡ or_else (first_row rows) (first_row more) →
+        cond b (Refuses r) (first_row (rows ++ more)) ≡ or_else (cond b (Refuses r) (first_row rows)) (first_row more)
     go true h = refl
     go false h = h
 
 -- the envelope
 module _ {x e : Envelope} (i : x ≡ e) where
-  pub v_right : x ≡ Right → Passes ≡ first_of (envelope_rows e)
+  pub v_right : x ≡ Right → Passes ≡ first_row (envelope_rows e)
   v_right j = rw (sym i ∙ j)
 
-  pub v_fewer : x ≡ Fewer → Refuses refusal.Fewer ≡ first_of (envelope_rows e)
+  pub v_fewer : x ≡ Fewer → Refuses refusal.Fewer ≡ first_row (envelope_rows e)
   v_fewer j = rw (sym i ∙ j)
 
-  pub v_length : x ≡ Length → Refuses refusal.Length ≡ first_of (envelope_rows e)
+  pub v_length : x ≡ Length → Refuses refusal.Length ≡ first_row (envelope_rows e)
   v_length j = rw (sym i ∙ j)
 
-  pub v_version : x ≡ Version → Refuses refusal.Version ≡ first_of (envelope_rows e)
+  pub v_version : x ≡ Version → Refuses refusal.Version ≡ first_row (envelope_rows e)
   v_version j = rw (sym i ∙ j)
 
 pub ruleset envelopes_are = (rules, v_right, v_fewer, v_length, v_version)
@@ -83,17 +83,17 @@ module _ (bytes : List ℕ) {t : List ℕ} {x : Read} (k : t ≡ drop 3 bytes) (
   here : {y : Read} → x ≡ y → y ≡ shown (read_tree bytes)
   here j = sym j ∙ i ∙ ap (λ t. shown (read_at t 0)) k
 
-  pub w_cut : x ≡ Cut → Refuses refusal.Cut ≡ first_of (tree_rows bytes)
+  pub w_cut : x ≡ Cut → Refuses refusal.Cut ≡ first_row (tree_rows bytes)
   w_cut j = rw (is_cut_lem (read_tree bytes) (here j))
 
-  pub w_bad : {o : ℕ} → x ≡ Bad o → Refuses refusal.Bad ≡ first_of (tree_rows bytes)
+  pub w_bad : {o : ℕ} → x ≡ Bad o → Refuses refusal.Bad ≡ first_row (tree_rows bytes)
   w_bad j = rw (is_bad_lem (read_tree bytes) (here j))
 
   module _ {m : ℕ} (j : x ≡ Whole m) where
-    pub w_over : m < length t → Refuses refusal.LeftOver ≡ first_of (tree_rows bytes)
+    pub w_over : m < length t → Refuses refusal.LeftOver ≡ first_row (tree_rows bytes)
     w_over h = rw ((is_whole (read_tree bytes) (here j)).1, lt-ltb m (length (drop 3 bytes)) (omega (arith, ap length k)))
 
-    pub w_whole : length t ≤ m → Passes ≡ first_of (tree_rows bytes)
+    pub w_whole : length t ≤ m → Passes ≡ first_row (tree_rows bytes)
     w_whole h = rw ((is_whole (read_tree bytes) (here j)).1, le-ltb m (length (drop 3 bytes)) (omega (arith, ap length k)))
 
 pub ruleset trees_are = (rules, w_cut, w_bad, w_over, w_whole)
@@ -109,70 +109,70 @@ module _ (net : Net) (c : Controller) (bytes : List ℕ) where
   inside : Check → Check → Check → Check
   inside envelope tree entry =
       cond (not (soundb net)) (Refuses refusal.NotSound)
-      (or_else envelope (or_else tree (cond (not (in_net net c)) (Refuses refusal.NoController) (or_else entry (first_of (slot_row net ∷ place_row net ∷ []))))))
+      (or_else envelope (or_else tree (cond (not (in_net net c)) (Refuses refusal.NoController) (or_else entry (first_row (slot_row net ∷ place_row net ∷ []))))))
 
-  in_order : first_of (rows_of net (launch c bytes))
-      ≡ inside (first_of (envelope_rows (envelope 2 385 bytes))) (first_of (tree_rows bytes)) (first_of (entry_rows (at_launch net c) (allows net c) [] (code_of bytes)))
+  in_order : first_row (rows_of net (launch c bytes))
+      ≡ inside (first_row (envelope_rows (envelope 2 385 bytes))) (first_row (tree_rows bytes)) (first_row (entry_rows (at_launch net c) (allows net c) [] (code_of bytes)))
   unfolding rows_of inside
   in_order = rw (first_append (envelope_rows (envelope 2 385 bytes)), first_append (tree_rows bytes), first_append (entry_rows (at_launch net c) (allows net c) [] (code_of bytes)))
 
   module _ {b : Bool} (i : b ≡ soundb net) where
-    pub l_unsound : not b ≡ true → Refuses refusal.NotSound ≡ first_of (rows_of net (launch c bytes))
+    pub l_unsound : not b ≡ true → Refuses refusal.NotSound ≡ first_row (rows_of net (launch c bytes))
     unfolding rows_of
     l_unsound h = rw (sym i ∙ not-true b h)
 
-    module _ (sound : not b ≡ false) {x : Check} (j : x ≡ first_of (envelope_rows (envelope 2 385 bytes))) where
-      pub l_envelope : {r : Refusal} → x ≡ Refuses r → x ≡ first_of (rows_of net (launch c bytes))
+    module _ (sound : not b ≡ false) {x : Check} (j : x ≡ first_row (envelope_rows (envelope 2 385 bytes))) where
+      pub l_envelope : {r : Refusal} → x ≡ Refuses r → x ≡ first_row (rows_of net (launch c bytes))
       unfolding inside
       l_envelope {r} h = h ∙ sym (in_order ∙ rw (sym i ∙ not-false b sound, sym j ∙ h))
 
-      module _ (right : x ≡ Passes) {y : Check} (k : y ≡ first_of (tree_rows bytes)) where
+      module _ (right : x ≡ Passes) {y : Check} (k : y ≡ first_row (tree_rows bytes)) where
         after_tree : Check → Check
-        after_tree y = or_else y (cond (not (in_net net c)) (Refuses refusal.NoController) (or_else (first_of (entry_rows (at_launch net c) (allows net c) [] (code_of bytes))) (first_of (slot_row net ∷ place_row net ∷ []))))
+        after_tree y = or_else y (cond (not (in_net net c)) (Refuses refusal.NoController) (or_else (first_row (entry_rows (at_launch net c) (allows net c) [] (code_of bytes))) (first_row (slot_row net ∷ place_row net ∷ []))))
 
-        at_tree : first_of (rows_of net (launch c bytes)) ≡ after_tree y
+        at_tree : first_row (rows_of net (launch c bytes)) ≡ after_tree y
         unfolding inside after_tree
         at_tree = in_order ∙ rw (sym i ∙ not-false b sound, sym j ∙ right, ← k)
 
-        pub l_tree : {r : Refusal} → y ≡ Refuses r → y ≡ first_of (rows_of net (launch c bytes))
+        pub l_tree : {r : Refusal} → y ≡ Refuses r → y ≡ first_row (rows_of net (launch c bytes))
         unfolding after_tree
         l_tree h = h ∙ sym (at_tree ∙ ap after_tree h)
 
         module _ (read : y ≡ Passes) {d : Bool} (l : d ≡ stands_in net.n c) where
-          pub l_none : not d ≡ true → Refuses refusal.NoController ≡ first_of (rows_of net (launch c bytes))
+          pub l_none : not d ≡ true → Refuses refusal.NoController ≡ first_row (rows_of net (launch c bytes))
           unfolding after_tree
           l_none h = let f : in_net net c ≡ false = sym l ∙ not-true d h in sym (at_tree ∙ ap after_tree read ∙ rw f)
 
           module _ (stands : not d ≡ false) {look : Look} {policy t : List ℕ} {z : Check} (m : look ≡ launch_look net.trust c) (n : policy ≡ policy_in net.policies c)
               (o : t ≡ drop 3 bytes) (q : z ≡ entered look policy t 0 0 0) where
-            at_entry_lem : first_of (rows_of net (launch c bytes)) ≡ or_else z (first_of (slot_row net ∷ place_row net ∷ []))
+            at_entry_lem : first_row (rows_of net (launch c bytes)) ≡ or_else z (first_row (slot_row net ∷ place_row net ∷ []))
             unfolding after_tree policy_of
             at_entry_lem =
                 let f : in_net net c ≡ true = sym l ∙ not-false d stands in
                 let w = whole_tree (read_tree bytes) (length (tree bytes)) (sym k ∙ read) in
-                let e : z ≡ first_of (entry_rows (at_launch net c) (allows net c) [] (code_of bytes)) = q ∙ rw (m, n, o) (launch_rows_lem (policy_of net c) (tree bytes) 0 0 0 w.1 net.trust c) in
+                let e : z ≡ first_row (entry_rows (at_launch net c) (allows net c) [] (code_of bytes)) = q ∙ rw (m, n, o) (launch_rows_lem (policy_of net c) (tree bytes) 0 0 0 w.1 net.trust c) in
                 at_tree ∙ ap after_tree read ∙ rw (f, ← e)
 
-            pub l_entry : {r : Refusal} → z ≡ Refuses r → z ≡ first_of (rows_of net (launch c bytes))
-            l_entry h = h ∙ sym (at_entry_lem ∙ ap (λ z. or_else z (first_of (slot_row net ∷ place_row net ∷ []))) h)
+            pub l_entry : {r : Refusal} → z ≡ Refuses r → z ≡ first_row (rows_of net (launch c bytes))
+            l_entry h = h ∙ sym (at_entry_lem ∙ ap (λ z. or_else z (first_row (slot_row net ∷ place_row net ∷ []))) h)
 
             module _ (enters : z ≡ Passes) {slot place : ℕ} (u : slot ≡ free_slot net) (v : place ≡ free_place net) where
-              at_room : first_of (rows_of net (launch c bytes)) ≡ first_of (slot_row net ∷ place_row net ∷ [])
-              at_room = at_entry_lem ∙ ap (λ z. or_else z (first_of (slot_row net ∷ place_row net ∷ []))) enters
+              at_room : first_row (rows_of net (launch c bytes)) ≡ first_row (slot_row net ∷ place_row net ∷ [])
+              at_room = at_entry_lem ∙ ap (λ z. or_else z (first_row (slot_row net ∷ place_row net ∷ []))) enters
 
-              pub l_slot : 64 ≤ slot → Refuses refusal.NoSlot ≡ first_of (rows_of net (launch c bytes))
+              pub l_slot : 64 ≤ slot → Refuses refusal.NoSlot ≡ first_row (rows_of net (launch c bytes))
               l_slot h = sym (at_room ∙ rw (le-leb 64 (free_slot net) (omega arith)))
 
-              pub l_place : slot < 64 → 8 ≤ place → Refuses refusal.NoPlace ≡ first_of (rows_of net (launch c bytes))
+              pub l_place : slot < 64 → 8 ≤ place → Refuses refusal.NoPlace ≡ first_row (rows_of net (launch c bytes))
               l_place g h = sym (at_room ∙ rw (lt-leb 64 (free_slot net) (omega arith), le-leb 8 (free_place net) (omega arith)))
 
-              pub l_passes : slot < 64 → place < 8 → Passes ≡ first_of (rows_of net (launch c bytes))
+              pub l_passes : slot < 64 → place < 8 → Passes ≡ first_row (rows_of net (launch c bytes))
               l_passes g h = sym (at_room ∙ rw (lt-leb 64 (free_slot net) (omega arith), lt-leb 8 (free_place net) (omega arith)))
 
 pub ruleset launches = (rules, l_unsound, l_envelope, l_tree, l_none, l_entry, l_slot, l_place, l_passes)
 
 -- the outcome: x is the first row that refuses
-module _ (net : Net) (c : Controller) (bytes : List ℕ) {x : Check} (i : x ≡ first_of (rows_of net (launch c bytes))) where
+module _ (net : Net) (c : Controller) (bytes : List ℕ) {x : Check} (i : x ≡ first_row (rows_of net (launch c bytes))) where
   launch_is : {y : Check} → x ≡ y → called net (launch c bytes) ≡ concluded y net (launch_done net c bytes)
   unfolding done_of
   launch_is j = answer_is (rows_of net (launch c bytes)) net (done_of net (launch c bytes)) ∙ ap (λ y. concluded y net (launch_done net c bytes)) (sym i ∙ j)

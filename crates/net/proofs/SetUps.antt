@@ -21,7 +21,7 @@ use Rattle.rules.specs.Calls.{envelope_rows, laid, controllers_of, trust_byte, p
 use Rattle.net.specs.declared.entry.Check.{Check}
 use Rattle.net.specs.declared.entry.Check.TheVariants.{Passes, Refuses}
 use Rattle.net.specs.Parts.{coherent_in}
-use Rattle.net.specs.Checks.{first_of, concluded}
+use Rattle.net.specs.Checks.{first_row, concluded}
 use Rattle.net.proofs.Effects.{answer_is}
 use Rattle.net.proofs.Launches.{or_else, first_append}
 
@@ -35,7 +35,7 @@ unfolding set_up_net
 fresh_is bytes i j k l = rw (j, k, l, i)
 
 -- the rows: x is the envelope's, n the number of controllers, s and m the lengths, t the trust bytes
-module _ (bytes : List ℕ) {x : Check} (i : x ≡ first_of (envelope_rows (envelope 2 770 bytes))) where
+module _ (bytes : List ℕ) {x : Check} (i : x ≡ first_row (envelope_rows (envelope 2 770 bytes))) where
   inner : List Row
   inner =
       (ltb (controllers_of bytes) 1 || ltb 16 (controllers_of bytes)) gives refusal.BadSetUp
@@ -44,23 +44,23 @@ module _ (bytes : List ℕ) {x : Check} (i : x ≡ first_of (envelope_rows (enve
       ∷ not (coherentb (set_up_net bytes)) gives refusal.NotCoherent
       ∷ []
 
-  in_order : first_of (set_up_rows bytes) ≡ or_else x (first_of inner)
+  in_order : first_row (set_up_rows bytes) ≡ or_else x (first_row inner)
   unfolding inner
-  in_order = first_append (envelope_rows (envelope 2 770 bytes)) inner ∙ ap (λ x. or_else x (first_of inner)) (sym i)
+  in_order = first_append (envelope_rows (envelope 2 770 bytes)) inner ∙ ap (λ x. or_else x (first_row inner)) (sym i)
 
-  pub s_envelope : {r : Refusal} → x ≡ Refuses r → x ≡ first_of (set_up_rows bytes)
-  s_envelope h = h ∙ sym (in_order ∙ ap (λ x. or_else x (first_of inner)) h)
+  pub s_envelope : {r : Refusal} → x ≡ Refuses r → x ≡ first_row (set_up_rows bytes)
+  s_envelope h = h ∙ sym (in_order ∙ ap (λ x. or_else x (first_row inner)) h)
 
   module _ (right : x ≡ Passes) {n : ℕ} (j : n ≡ get_or bytes 3 0) where
-    at_inner : first_of (set_up_rows bytes) ≡ first_of inner
-    at_inner = in_order ∙ ap (λ x. or_else x (first_of inner)) right
+    at_inner : first_row (set_up_rows bytes) ≡ first_row inner
+    at_inner = in_order ∙ ap (λ x. or_else x (first_row inner)) right
 
-    pub s_none : n < 1 → Refuses refusal.BadSetUp ≡ first_of (set_up_rows bytes)
+    pub s_none : n < 1 → Refuses refusal.BadSetUp ≡ first_row (set_up_rows bytes)
     unfolding inner
     s_none h = sym (at_inner ∙ rw (lt-ltb (controllers_of bytes) 1 (omega arith)))
 
     module _ (some-n : 1 ≤ n) where
-      pub s_many : 16 < n → Refuses refusal.BadSetUp ≡ first_of (set_up_rows bytes)
+      pub s_many : 16 < n → Refuses refusal.BadSetUp ≡ first_row (set_up_rows bytes)
       unfolding inner
       s_many h = sym (at_inner ∙ rw (le-ltb (controllers_of bytes) 1 (omega arith), lt-ltb 16 (controllers_of bytes) (omega arith)))
 
@@ -68,7 +68,7 @@ module _ (bytes : List ℕ) {x : Check} (i : x ≡ first_of (envelope_rows (enve
         length_for : m ≡ 2 + controllers_of bytes * controllers_of bytes + 32 * controllers_of bytes
         length_for = l ∙ ap (λ n. 2 + n * n + 32 * n) j
 
-        pub s_length : (s ≡ m → ⊥) → Refuses refusal.BadSetUp ≡ first_of (set_up_rows bytes)
+        pub s_length : (s ≡ m → ⊥) → Refuses refusal.BadSetUp ≡ first_row (set_up_rows bytes)
         unfolding inner
         s_length h =
             sym (at_inner ∙ rw (
@@ -78,7 +78,7 @@ module _ (bytes : List ℕ) {x : Check} (i : x ≡ first_of (envelope_rows (enve
             ))
 
         module _ (long : s ≡ m) {t : List ℕ} {b : Bool} (o : t ≡ (set_up_net bytes).trust) (p : b ≡ every (λ b. leb b 2) t) where
-          at_trust : first_of (set_up_rows bytes) ≡ cond (not b) (Refuses refusal.BadSetUp) (cond (not (coherentb (set_up_net bytes))) (Refuses refusal.NotCoherent) Passes)
+          at_trust : first_row (set_up_rows bytes) ≡ cond (not b) (Refuses refusal.BadSetUp) (cond (not (coherentb (set_up_net bytes))) (Refuses refusal.NotCoherent) Passes)
           unfolding inner
           at_trust =
               at_inner ∙ rw (
@@ -89,7 +89,7 @@ module _ (bytes : List ℕ) {x : Check} (i : x ≡ first_of (envelope_rows (enve
                 ← p,
               )
 
-          pub s_trust : not b ≡ true → Refuses refusal.BadSetUp ≡ first_of (set_up_rows bytes)
+          pub s_trust : not b ≡ true → Refuses refusal.BadSetUp ≡ first_row (set_up_rows bytes)
           s_trust h = sym (at_trust ∙ ap (λ b. cond b (Refuses refusal.BadSetUp) (cond (not (coherentb (set_up_net bytes))) (Refuses refusal.NotCoherent) Passes)) h)
 
           module _ (bytes-right : not b ≡ false) {d : Bool} (q : d ≡ coherent_in t n) where
@@ -97,15 +97,15 @@ module _ (bytes : List ℕ) {x : Check} (i : x ≡ first_of (envelope_rows (enve
             unfolding coherentb set_up_net
             coherent_is = sym (q ∙ rw (o, j))
 
-            at_coherence : first_of (set_up_rows bytes) ≡ cond (not d) (Refuses refusal.NotCoherent) Passes
+            at_coherence : first_row (set_up_rows bytes) ≡ cond (not d) (Refuses refusal.NotCoherent) Passes
             at_coherence =
                 at_trust ∙ ap (λ b. cond b (Refuses refusal.BadSetUp) (cond (not (coherentb (set_up_net bytes))) (Refuses refusal.NotCoherent) Passes)) bytes-right
                 ∙ ap (λ d. cond (not d) (Refuses refusal.NotCoherent) Passes) coherent_is
 
-            pub s_incoherent : not d ≡ true → Refuses refusal.NotCoherent ≡ first_of (set_up_rows bytes)
+            pub s_incoherent : not d ≡ true → Refuses refusal.NotCoherent ≡ first_row (set_up_rows bytes)
             s_incoherent h = sym (at_coherence ∙ ap (λ d. cond d (Refuses refusal.NotCoherent) Passes) h)
 
-            pub s_passes : not d ≡ false → Passes ≡ first_of (set_up_rows bytes)
+            pub s_passes : not d ≡ false → Passes ≡ first_row (set_up_rows bytes)
             s_passes h = sym (at_coherence ∙ ap (λ d. cond d (Refuses refusal.NotCoherent) Passes) h)
 
 pub ruleset set_ups = (rules, s_envelope, s_none, s_many, s_length, s_trust, s_incoherent, s_passes)
@@ -114,7 +114,7 @@ pub ruleset set_ups = (rules, s_envelope, s_none, s_many, s_length, s_trust, s_i
 pub trust_of_fresh : (bytes : List ℕ) {made : Net} → made ≡ set_up_net bytes → made.trust ≡ (set_up_net bytes).trust
 trust_of_fresh bytes e = ap (λ net. net.trust) e
 
-module _ (net : Net) (bytes : List ℕ) {x : Check} (i : x ≡ first_of (set_up_rows bytes)) where
+module _ (net : Net) (bytes : List ℕ) {x : Check} (i : x ≡ first_row (set_up_rows bytes)) where
   set_up_is : {y : Check} → x ≡ y → called net (set_up bytes) ≡ concluded y net (set_up_done bytes)
   unfolding rows_of done_of
   set_up_is j = answer_is (set_up_rows bytes) net (set_up_done bytes) ∙ ap (λ y. concluded y net (set_up_done bytes)) (sym i ∙ j)

@@ -35,7 +35,7 @@ use Rattle.net.specs.declared.entry.Look.{Look}
 use Rattle.net.specs.declared.turn.Turn.{Turn}
 use Rattle.net.specs.declared.turn.Turn.TheVariants as turn
 use Rattle.net.specs.Parts.{stands_in, policy_in}
-use Rattle.net.specs.Checks.{first_of, entry_look, entered}
+use Rattle.net.specs.Checks.{first_row, entry_look, entered}
 use Rattle.net.specs.Turns.{unless, turn_by, turned, depart_check, turn_at, Near}
 use Rattle.net.proofs.Readings.{place_short}
 use Rattle.net.proofs.Entries.{depart_rows}
@@ -71,10 +71,10 @@ pub ruleset departures = (rules, d_here, d_none, d_enters)
 
 -- room for one more thread
 module _ (net : Net) {y : ℕ} (s : y ≡ slot_in net.threads 0 64) where
-  full : 64 ≤ y → (done : Turn) → turn.Refuses refusal.NoSlot ≡ unless (first_of (slot_row net ∷ [])) done
+  full : 64 ≤ y → (done : Turn) → turn.Refuses refusal.NoSlot ≡ unless (first_row (slot_row net ∷ [])) done
   full h done = rw (le-leb 64 (free_slot net) (omega arith))
 
-  room : y < 64 → (done : Turn) → done ≡ unless (first_of (slot_row net ∷ [])) done
+  room : y < 64 → (done : Turn) → done ≡ unless (first_row (slot_row net ∷ [])) done
   room h done = rw (lt-leb 64 (free_slot net) (omega arith))
 
 -- a node, by the tests on it
@@ -130,7 +130,7 @@ pub ruleset turns = (rules, t_end, t_nothing, t_act, t_split_full, t_split, t_re
 
 -- what the rules do, by the node of the program that is read
 module _ (net : Net) (t : Thread) (k : ℕ) where
-  by_node : (p : Program) {m : ℕ} → read_at (place_bytes net.places t.place) k ≡ whole p m → turn_at net t (node_of k p) ≡ unless (first_of (node_rows net t.controller p)) (turn_by net k p)
+  by_node : (p : Program) {m : ℕ} → read_at (place_bytes net.places t.place) k ≡ whole p m → turn_at net t (node_of k p) ≡ unless (first_row (node_rows net t.controller p)) (turn_by net k p)
   unfolding node_of
   by_node end e = refl
   by_node (act a p) e = refl

@@ -17,9 +17,9 @@ use Rattle.net.specs.declared.entry.Look.TheVariants.{BytesOnly, TheSlip, TheCod
 use Rattle.net.specs.Parts.{trust_in}
 
 -- the first row that holds, and what a call then gives
-abbrev pub first_of : List Row → Check
-first_of [] = Passes
-first_of (test gives r ∷ rows) = cond test (Refuses r) (first_of rows)
+abbrev pub first_row : List Row → Check
+first_row [] = Passes
+first_row (test gives r ∷ rows) = cond test (Refuses r) (first_row rows)
 
 abbrev pub concluded : Check → Net → Outcome → Outcome
 concluded Passes net done = done

@@ -23,7 +23,7 @@ use Rattle.net.specs.declared.entry.Check.{Check}
 use Rattle.net.specs.declared.entry.Check.TheVariants.{Passes, Refuses}
 use Rattle.net.specs.declared.turn.Turn.{Turn}
 use Rattle.net.specs.declared.turn.Turn.TheVariants as turn
-use Rattle.net.specs.Checks.{first_of, entry_look, entered}
+use Rattle.net.specs.Checks.{first_row, entry_look, entered}
 
 -- the first row that refuses, or else what is done
 abbrev pub unless : Check → Turn → Turn
@@ -40,7 +40,7 @@ turn_by net k (depart l slip p) = turn.Departs l (k + 1 + 1 + 1 + length (entrie
 
 -- a step of a slot: its rows, or else that
 unfoldable pub turned : Net → ℕ → Turn
-turned net slot = unless (first_of (rows_of net (step slot))) (turn_by net (thread_at net slot).position (program_at net (thread_at net slot)))
+turned net slot = unless (first_row (rows_of net (step slot))) (turn_by net (thread_at net slot).position (program_at net (thread_at net slot)))
 
 -- the whole outcome of a turn
 abbrev pub done_by : Net → ℕ → Thread → Turn → Outcome
@@ -64,8 +64,8 @@ depart_check net t own =
 abbrev pub turn_at : Net → Thread → Node → Turn
 turn_at net t End = turn.Ends
 turn_at net t (Act a next) = turn.Acts a next
-turn_at net t (Split first second) = unless (first_of (slot_row net ∷ [])) (turn.Splits (free_slot net) first second)
-turn_at net t (Repeat body) = unless (first_of (slot_row net ∷ [])) (turn.Repeats (free_slot net) body)
+turn_at net t (Split first second) = unless (first_row (slot_row net ∷ [])) (turn.Splits (free_slot net) first second)
+turn_at net t (Repeat body) = unless (first_row (slot_row net ∷ [])) (turn.Repeats (free_slot net) body)
 turn_at net t (Depart own) = unless (depart_check net t own) (turn.Departs own.controller own.carried)
 turn_at net t Nothing = turn.Refuses refusal.NotSound
 

@@ -2,7 +2,7 @@
 ghost use Rattle.std.specs.Prelude.{◌≡◌};
 ghost use Rattle.program.specs.Envelope.{envelope};
 ghost use Rattle.rules.specs.Calls.{envelope_rows};
-ghost use Rattle.net.specs.Checks.{first_of};
+ghost use Rattle.net.specs.Checks.{first_row};
 
 use crate::entry::Check;
 use program::{Envelope, envelope_of};
@@ -10,7 +10,7 @@ use rules::Refusal;
 
 // 1, 2 or 3.
 pub fn envelope_check(bytes: &[u8], most: usize) -> Check
-    ensures { result ≡ first_of (envelope_rows (envelope 2 most bytes.now)) }
+    ensures { result ≡ first_row (envelope_rows (envelope 2 most bytes.now)) }
 {
     match envelope_of(bytes, 2, most) {
         Envelope::Right => Check::Passes,

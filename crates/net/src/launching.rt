@@ -3,7 +3,7 @@ ghost use Rattle.std.specs.Prelude.{◌≡◌};
 ghost use Rattle.program.specs.Envelope.{envelope};
 ghost use Rattle.rules.specs.Nets.{free_slot, free_place};
 ghost use Rattle.rules.specs.Calls as rules;
-ghost use Rattle.net.specs.Checks.{first_of};
+ghost use Rattle.net.specs.Checks.{first_row};
 
 use crate::controllers::{in_net, policy_of};
 use crate::entry::{Check, at_launch, enter};
@@ -16,7 +16,7 @@ use rules::{ControllerField, Fields, NameField, Net, Outcome, PassField, Refusal
 
 // 4 or 5, whichever the reading meets first, then 6.
 fn tree_check(bytes: &[u8]) -> Check
-    ensures { result ≡ first_of (rules.tree_rows bytes.now) }
+    ensures { result ≡ first_row (rules.tree_rows bytes.now) }
 {
     let tree = body(bytes);
     match read_program(tree, 0) {
@@ -35,7 +35,7 @@ fn tree_check(bytes: &[u8]) -> Check
 // 99, the bytes, 16, what the controller asks, then room: the lowest free slot and place are given.
 fn launch_check(net: Net, c: Controller, bytes: &[u8], slot: usize, place: u8) -> Check
     requires { (slot ≡ free_slot net) × (place ≡ free_place net) }
-    ensures { result ≡ first_of (rules.rows_of net (rules.launch c bytes.now)) }
+    ensures { result ≡ first_row (rules.rows_of net (rules.launch c bytes.now)) }
 {
     if !sound(net) {
         return Check::Refuses(Refusal::NotSound);

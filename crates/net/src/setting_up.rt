@@ -2,7 +2,7 @@
 ghost use Rattle.std.specs.Prelude.{◌≡◌, ◌+◌, ◌*◌};
 ghost use Rattle.program.specs.Envelope.{stated};
 ghost use Rattle.rules.specs.Calls as rules;
-ghost use Rattle.net.specs.Checks.{first_of};
+ghost use Rattle.net.specs.Checks.{first_row};
 
 use crate::bytes::{byte_at, times, wide};
 use crate::coherence::coherent;
@@ -51,7 +51,7 @@ fn length_for(n: u8) -> usize
 // 1, 2, 3, then 14 for n, for the length and for a trust byte, then 15; the fresh net's trust bytes are given.
 fn set_up_check(bytes: &[u8], trust: &[u8]) -> Check
     requires { trust.now ≡ (rules.set_up_net bytes.now).trust }
-    ensures { result ≡ first_of (rules.set_up_rows bytes.now) }
+    ensures { result ≡ first_row (rules.set_up_rows bytes.now) }
 {
     let envelope = envelope_check(bytes, 770);
     if let Check::Refuses(_) = envelope {
