@@ -135,7 +135,7 @@ enough (suc d) zero s k h i = past (suc d) s k (omega arith)
 enough (suc d) (suc e) s k h i =
     step_same (read_by d s) (read_by e s) s k (λ j u. enough d e s j (omega arith) (omega arith)) (λ j q m r. (by_grows d s j q m r).0)
 
--- readAt is read_by at any such bound
+-- read_at is read_by at any such bound
 pub read_by_lem : (depth : ℕ) (s : List ℕ) (k : ℕ) → length s ≤ k + depth → read_at s k ≡ read_by depth s k
 unfolding read_at
 read_by_lem depth s k h = enough (suc (length s)) depth s k (omega arith) h
