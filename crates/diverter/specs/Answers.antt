@@ -1,17 +1,12 @@
 -- A reply as numbers: document 01's number, and each field beside a mark that says whether it is there. Definitions only.
-use Rattle.std.specs.Prelude.{ℕ, List}
+use Rattle.std.specs.Prelude.{ℕ, List, Option, Some, None}
 use Rattle.program.specs.declared.names.Controller.{Controller}
 use Rattle.rules.specs.declared.net.Net.{Net}
-use Rattle.rules.specs.declared.reply.PassField.{PassField}
-use Rattle.rules.specs.declared.reply.PassField.TheVariants as pass
-use Rattle.rules.specs.declared.reply.ControllerField.{ControllerField}
-use Rattle.rules.specs.declared.reply.ControllerField.TheVariants as at
-use Rattle.rules.specs.declared.reply.NameField.{NameField}
-use Rattle.rules.specs.declared.reply.NameField.TheVariants as name
+use Rattle.rules.specs.declared.reply.Name.{Name}
+use Rattle.rules.specs.declared.reply.Name.TheVariants as name
 use Rattle.rules.specs.declared.reply.Fields.{Fields}
-use Rattle.rules.specs.declared.reply.Reply.{Reply}
 use Rattle.rules.specs.declared.reply.Outcome.{Outcome}
-use Rattle.rules.specs.Rows.{number, fields}
+use Rattle.rules.specs.Rows.{Reply, number, fields}
 use Rattle.rules.specs.Calls.{set_up, launch, step, called}
 use Rattle.diverter.specs.declared.answer.Shown.{Shown}
 use Rattle.diverter.specs.declared.answer.Answer.{Answer}
@@ -24,18 +19,18 @@ present x = record { present = 1; value = x }
 abbrev pub absent : Shown
 absent = record { present = 0; value = 0 }
 
-abbrev pub shown_pass : PassField → Shown
-shown_pass (pass.Is x) = present x
-shown_pass pass.Absent = absent
+abbrev pub shown_pass : Option ℕ → Shown
+shown_pass (Some x) = present x
+shown_pass None = absent
 
-abbrev pub shown_controller : ControllerField → Shown
-shown_controller (at.Is c) = present c.0
-shown_controller at.Absent = absent
+abbrev pub shown_controller : Option Controller → Shown
+shown_controller (Some c) = present c.0
+shown_controller None = absent
 
-abbrev pub shown_name : NameField → Shown
-shown_name (name.Acted a) = present a.0
-shown_name (name.Went c) = present c.0
-shown_name name.Absent = absent
+abbrev pub shown_name : Option Name → Shown
+shown_name (Some (name.Acted a)) = present a.0
+shown_name (Some (name.Went c)) = present c.0
+shown_name None = absent
 
 abbrev pub answer_for : ℕ → Fields → Answer
 answer_for n f = record {

@@ -1,11 +1,10 @@
 // A reply as numbers, for callers in C.
 ghost use Rattle.std.specs.Prelude.{◌≡◌};
-ghost use Rattle.rules.specs.Rows.{refusal_number};
-ghost use Rattle.diverter.specs.Answers.{shown_pass, shown_controller, shown_name, answer_for, answer_of};
+ghost use Rattle.diverter.specs.Answers.{shown_pass, answer_for, answer_of};
 
-use rules::{ControllerField, Fields, NameField, PassField, Refusal, Reply};
+use rules::{Fields, Reply};
 
-// A field of a reply: present is 1 where it is there; where it is absent both are 0.
+// A field of a reply: present is 1 where it is there; where it is absent both are 0. C reads it, hence a mark and no Option.
 #[repr(C)]
 #[derive(Clone, Copy)]
 pub struct Shown {
@@ -25,111 +24,47 @@ pub struct Answer {
     pub fresh: Shown,
 }
 
-// The document's number for each refusal.
-fn refusal_number(r: Refusal) -> u8
-    ensures { result ≡ refusal_number r }
-{
-    match r {
-        Refusal::Fewer => 1,
-        Refusal::Length => 2,
-        Refusal::Version => 3,
-        Refusal::Cut => 4,
-        Refusal::Bad => 5,
-        Refusal::LeftOver => 6,
-        Refusal::NotFitting => 7,
-        Refusal::NotHonest => 8,
-        Refusal::NoSlot => 9,
-        Refusal::NoPlace => 10,
-        Refusal::NoThread => 11,
-        Refusal::SlipNotFitting => 12,
-        Refusal::AlreadyHere => 13,
-        Refusal::BadSetUp => 14,
-        Refusal::NotCoherent => 15,
-        Refusal::NoController => 16,
-        Refusal::NotSound => 99,
-    }
-}
+impl From<Option<u16>> for Shown {
+    ghost from_gives = { λ o r. r ≡ shown_pass o };
 
-fn wide(name: u8) -> u16
-    ensures { result ≡ name }
-{
-    name as u16
-}
-
-fn present(value: u16) -> Shown
-    ensures { result ≡ record { present = 1; value = value } }
-{
-    Shown { present: 1, value }
-}
-
-fn absent() -> Shown
-    ensures { result ≡ record { present = 0; value = 0 } }
-{
-    Shown {
-        present: 0,
-        value: 0,
-    }
-}
-
-fn shown_pass(p: PassField) -> Shown
-    ensures { result ≡ shown_pass p }
-{
-    match p {
-        PassField::Is(pass) => present(pass),
-        PassField::Absent => absent(),
-    }
-}
-
-fn shown_controller(c: ControllerField) -> Shown
-    ensures { result ≡ shown_controller c }
-{
-    match c {
-        ControllerField::Is(controller) => present(wide(controller.0)),
-        ControllerField::Absent => absent(),
-    }
-}
-
-fn shown_name(n: NameField) -> Shown
-    ensures { result ≡ shown_name n }
-{
-    match n {
-        NameField::Acted(action) => present(wide(action.0)),
-        NameField::Went(controller) => present(wide(controller.0)),
-        NameField::Absent => absent(),
-    }
-}
-
-fn answer_for(number: u8, f: Fields) -> Answer
-    ensures { result ≡ answer_for number f }
-{
-    let pass = f.pass;
-    let controller = f.controller;
-    let name = f.name;
-    let fresh = f.fresh;
-    Answer {
-        number,
-        over: f.over,
-        pass: shown_pass(pass),
-        controller: shown_controller(controller),
-        name: shown_name(name),
-        fresh: shown_pass(fresh),
-    }
-}
-
-pub fn answer_of(reply: Reply) -> Answer
-    ensures { result ≡ answer_of reply }
-{
-    match reply {
-        Reply::Done(f) => answer_for(0, f),
-        Reply::Refused(r) => answer_for(
-            refusal_number(r),
-            Fields {
-                pass: PassField::Absent,
-                controller: ControllerField::Absent,
-                name: NameField::Absent,
-                fresh: PassField::Absent,
-                over: 0,
+    fn from(field: Option<u16>) -> Shown {
+        match field {
+            Some(value) => Shown { present: 1, value },
+            None => Shown {
+                present: 0,
+                value: 0,
             },
-        ),
+        }
+    }
+}
+
+// Done: the fields, under 0.
+impl From<Fields> for Answer {
+    ghost from_gives = { λ f r. r ≡ answer_for 0 f };
+
+    fn from(fields: Fields) -> Answer {
+        Answer {
+            number: 0,
+            over: fields.over,
+            pass: Shown::from(fields.pass),
+            controller: Shown::from(fields.controller.map(|c| u16::from(c.0))),
+            name: Shown::from(fields.name.map(u16::from)),
+            fresh: Shown::from(fields.fresh),
+        }
+    }
+}
+
+// Refused: the document's number, and no field.
+impl From<Reply> for Answer {
+    ghost from_gives = { λ reply r. r ≡ answer_of reply };
+
+    fn from(reply: Reply) -> Answer {
+        match reply {
+            Ok(fields) => Answer::from(fields),
+            Err(why) => Answer {
+                number: u8::from(why),
+                ..Answer::from(Fields::default())
+            },
+        }
     }
 }

@@ -4,9 +4,7 @@
 mod answer;
 mod calls;
 mod told;
-mod via;
 
 pub use answer::{Answer, Shown};
 pub use calls::{diverter_launch, diverter_set_up, diverter_step};
 pub use told::Told;
-pub use via::{launch_via, set_up_via, step_via};

@@ -9,43 +9,22 @@ use program::Controller;
 fn agrees(trust: &[u8], k: Controller, l: Controller) -> bool
     ensures { result ≡ agrees_in trust.now k l }
 {
-    if trust_of(trust, k, k) != 1 {
-        return true;
-    }
     let known = trust_of(trust, k, l);
-    if known == 0 {
-        return true;
-    }
-    known == trust_of(trust, l, l)
+    trust_of(trust, k, k) != 1 || known == 0 || known == trust_of(trust, l, l)
 }
 
-// k and every controller of a net of n.
+// k and every controller of a net of n. The bound keeps the count of controllers in a byte, here and in
+// `coherent`.
 fn agrees_with_all(trust: &[u8], n: u8, k: Controller) -> bool
     requires { n ≤ 16 }
     ensures { result ≡ all_agree trust.now n k }
 {
-    let end = 16 + n;
-    let mut l = 16;
-    while l < end {
-        if !agrees(trust, k, Controller(l)) {
-            return false;
-        }
-        l += 1;
-    }
-    true
+    (16..16 + n).all(|l| agrees(trust, k, Controller(l)))
 }
 
 pub fn coherent(trust: &[u8], n: u8) -> bool
     requires { n ≤ 16 }
     ensures { result ≡ coherent_in trust.now n }
 {
-    let end = 16 + n;
-    let mut k = 16;
-    while k < end {
-        if !agrees_with_all(trust, n, Controller(k)) {
-            return false;
-        }
-        k += 1;
-    }
-    true
+    (16..16 + n).all(|k| agrees_with_all(trust, n, Controller(k)))
 }

@@ -3,25 +3,20 @@ ghost use Rattle.std.specs.Prelude.{◌≡◌};
 ghost use Rattle.net.specs.Checks.{launch_look, entry_look, entered};
 
 use crate::controllers::trust_of;
-use policy::{Tested, test_code, test_slip};
+use policy::{test_code, test_slip};
 use program::Controller;
 use rules::Refusal;
 
-// What a test answers: the first row that holds, if one holds.
-#[derive(Clone, Copy)]
-pub enum Check {
-    Passes,
-    Refuses(Refusal),
-}
-
-#[derive(Clone, Copy)]
+// What a controller looks at. An enum and no closure: the rules have these three too, and launch and step share what is done with each.
+#[derive(Clone, Copy, Debug, PartialEq, Eq)]
 pub enum Look {
     BytesOnly,
     TheSlip,
     TheCode,
 }
 
-// A trustworthy controller has launched code tested; any other only has its bytes read.
+// A trustworthy controller has launched code tested; any other only has its bytes read. This and `at_entry` are two
+// sentences of the rules: one function for both would take each sentence as its arguments.
 pub fn at_launch(trust: &[u8], c: Controller) -> Look
     ensures { result ≡ launch_look trust.now c }
 {
@@ -51,23 +46,18 @@ pub fn enter(
     slip: usize,
     entries: u8,
     code: usize,
-) -> Check
+) -> Result<(), Refusal>
     ensures { result ≡ entered look policy tree.now slip entries code }
 {
     match look {
-        Look::BytesOnly => Check::Passes,
+        Look::BytesOnly => Ok(()),
         Look::TheSlip => {
             if test_slip(tree, slip, entries, policy) {
-                Check::Passes
+                Ok(())
             } else {
-                Check::Refuses(Refusal::SlipNotFitting)
+                Err(Refusal::SlipNotFitting)
             }
         }
-        Look::TheCode => match test_code(tree, code, policy) {
-            Tested::Passed => Check::Passes,
-            Tested::NotHonest => Check::Refuses(Refusal::NotHonest),
-            Tested::NotFitting => Check::Refuses(Refusal::NotFitting),
-            Tested::Unread => Check::Refuses(Refusal::NotSound),
-        },
+        Look::TheCode => Ok(test_code(tree, code, policy)?),
     }
 }

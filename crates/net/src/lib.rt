@@ -4,8 +4,8 @@
 mod bytes;
 mod coherence;
 mod controllers;
+mod ends;
 mod entry;
-mod envelopes;
 mod launching;
 mod places;
 mod setting_up;

@@ -2,34 +2,28 @@
 ghost use Rattle.std.specs.Prelude.{◌≡◌, ◌+◌, ◌*◌};
 ghost use Rattle.program.specs.Envelope.{stated};
 ghost use Rattle.rules.specs.Calls as rules;
-ghost use Rattle.net.specs.Checks.{first_row};
+ghost use Rattle.net.specs.Checks.{described};
 
-use crate::bytes::{byte_at, times, wide};
+use crate::bytes::{byte_at, times};
 use crate::coherence::coherent;
 use crate::controllers::trust_bytes;
-use crate::entry::Check;
-use crate::envelopes::envelope_check;
-use crate::slots::no_thread;
-use crate::tables::{policy_table, trust_table};
-use rules::{ControllerField, Counter, Fields, NameField, Net, Outcome, PassField, Refusal, Reply};
+use crate::tables::{policy_byte, trust_byte};
+use program::envelope_of;
+use rules::{Counter, Fields, Net, Outcome, Refusal, Thread};
+use std::array;
 
 // The net that the bytes describe: no threads, empty places, and 65,535 as the last pass issued.
 fn fresh(bytes: &[u8]) -> Net
     ensures { result ≡ rules.set_up_net bytes.now }
 {
     let n = byte_at(bytes, 3);
-    let free = no_thread();
-    let trust = trust_table(bytes, n);
-    let policies = policy_table(bytes, n);
-    let threads = [free; 64];
-    let places = [0; 3072];
     Net {
         n,
-        trust,
-        policies,
-        threads,
-        places,
-        counter: Counter { last: 65535 },
+        trust: array::from_fn(|x| trust_byte(bytes, n, x)),
+        policies: array::from_fn(|x| policy_byte(bytes, n, x)),
+        threads: [Thread::default(); 64],
+        places: [0; 3072],
+        counter: Counter { last: u16::MAX },
     }
 }
 
@@ -37,63 +31,51 @@ fn fresh(bytes: &[u8]) -> Net
 fn length_of(bytes: &[u8]) -> usize
     ensures { result ≡ stated bytes.now }
 {
-    256 * wide(byte_at(bytes, 0)) + wide(byte_at(bytes, 1))
+    usize::from(u16::from_be_bytes([byte_at(bytes, 0), byte_at(bytes, 1)]))
 }
 
 // The length of a set-up of n controllers.
 fn length_for(n: u8) -> usize
     ensures { result ≡ 2 + n * n + 32 * n }
 {
-    let rows = wide(n);
-    2 + times(rows, rows) + 32 * rows
+    2 + times(n, n) + 32 * usize::from(n)
 }
 
-// 1, 2, 3, then 14 for n, for the length and for a trust byte, then 15; the fresh net's trust bytes are given.
-fn set_up_check(bytes: &[u8], trust: &[u8]) -> Check
-    requires { trust.now ≡ (rules.set_up_net bytes.now).trust }
-    ensures { result ≡ first_row (rules.set_up_rows bytes.now) }
+// The fresh net, or 1, 2, 3, then 14 for n, for the length and for a trust byte, then 15.
+#[tactic(auto, using(crate::proofs::SetUps::set_ups))]
+fn described(bytes: &[u8]) -> Result<Net, Refusal>
+    ensures { result ≡ described bytes.now }
 {
-    let envelope = envelope_check(bytes, 770);
-    if let Check::Refuses(_) = envelope {
-        return envelope;
-    }
+    envelope_of(bytes, 2, 770)?;
     let n = byte_at(bytes, 3);
-    if n < 1 {
-        return Check::Refuses(Refusal::BadSetUp);
-    }
-    if 16 < n {
-        return Check::Refuses(Refusal::BadSetUp);
+    if n < 1 || 16 < n {
+        return Err(Refusal::BadSetUp);
     }
     if length_of(bytes) != length_for(n) {
-        return Check::Refuses(Refusal::BadSetUp);
+        return Err(Refusal::BadSetUp);
     }
-    if !trust_bytes(trust) {
-        return Check::Refuses(Refusal::BadSetUp);
+    let net = fresh(bytes);
+    if !trust_bytes(&net.trust) {
+        return Err(Refusal::BadSetUp);
     }
-    if !coherent(trust, n) {
-        return Check::Refuses(Refusal::NotCoherent);
+    if !coherent(&net.trust, n) {
+        return Err(Refusal::NotCoherent);
     }
-    Check::Passes
+    Ok(net)
 }
 
+#[tactic(auto, using(crate::proofs::SetUps::set_up_is))]
 pub fn set_up(net: Net, bytes: &[u8]) -> Outcome
     ensures { result ≡ rules.called net (rules.set_up bytes.now) }
 {
-    let made = fresh(bytes);
-    match set_up_check(bytes, &made.trust) {
-        Check::Refuses(why) => Outcome {
-            reply: Reply::Refused(why),
-            net,
-        },
-        Check::Passes => Outcome {
-            reply: Reply::Done(Fields {
-                pass: PassField::Absent,
-                controller: ControllerField::Absent,
-                name: NameField::Absent,
-                fresh: PassField::Absent,
-                over: 0,
-            }),
+    match described(bytes) {
+        Ok(made) => Outcome {
+            reply: Ok(Fields::default()),
             net: made,
+        },
+        Err(why) => Outcome {
+            reply: Err(why),
+            net,
         },
     }
 }

@@ -1,20 +1,18 @@
 // What a step of a slot does, by the node at its thread's position: found out before anything is changed.
-ghost use Rattle.std.specs.Prelude.{◌≡◌, ◌≤◌, ◌<◌};
+ghost use Rattle.std.specs.Prelude.{◌≡◌, ◌≤◌};
 ghost use Rattle.net.specs.Turns.{depart_check, Near, turn_at, turned};
 
-use crate::bytes::{narrow, wide_u16};
 use crate::controllers::{in_net, policy_of};
-use crate::entry::{Check, at_entry, enter};
+use crate::entry::{at_entry, enter};
 use crate::places::place_bytes;
-use crate::slots::free_slot;
+use crate::slots::{free_slot, thread_at};
 use crate::sound::sound;
 use program::{Action, Controller, Departure, Node, node_at};
 use rules::{Net, Refusal, Thread};
 
 // Positions of the programs inside the node, and the lowest free slot where one is needed.
-#[derive(Clone, Copy)]
+#[derive(Clone, Copy, Debug, PartialEq, Eq)]
 pub enum Turn {
-    Refuses(Refusal),
     Ends,
     Acts(Action, u16),
     Splits(usize, u16, u16),
@@ -22,78 +20,58 @@ pub enum Turn {
     Departs(Controller, u16),
 }
 
-// Whether the target lets the thread in: 13, 16, then 12 alone or 8 before 7.
-fn departure_check(net: Net, t: Thread, own: Departure) -> Check
-    requires { net.n ≤ 16 }
-    ensures { result ≡ depart_check net t own }
+// Whether the target lets the thread in: 13, 16, then 12 alone or 8 before 7. A controller of at most 16 has a policy: asked
+// here and handed on by `turn_at`, and of no other function.
+#[tactic(auto, using(crate::proofs::Turns::d_enters))]
+fn departure_check(net: &Net, t: Thread, own: Departure) -> Result<(), Refusal>
+    requires { net.now.n ≤ 16 }
+    ensures { result ≡ depart_check net.now t own }
 {
-    let target = own.controller;
-    let present = t.controller;
-    if target.0 == present.0 {
-        return Check::Refuses(Refusal::AlreadyHere);
+    if own.controller == t.controller {
+        return Err(Refusal::AlreadyHere);
     }
-    if !in_net(net.n, target) {
-        return Check::Refuses(Refusal::NoController);
+    if !in_net(net.n, own.controller) {
+        return Err(Refusal::NoController);
     }
-    let look = at_entry(&net.trust, target, present);
-    let policy = policy_of(&net.policies, target);
-    enter(
-        look,
-        policy,
-        place_bytes(&net.places, t.place),
-        own.slip,
-        own.entries,
-        own.carried,
-    )
+    let look = at_entry(&net.trust, own.controller, t.controller);
+    let policy = policy_of(&net.policies, own.controller);
+    let tree = place_bytes(&net.places, t.place);
+    enter(look, policy, tree, own.slip, own.entries, own.carried)
 }
 
 // By node: a second side and a body need a free slot (9), a departure the target's leave.
-fn turn_at(net: Net, t: Thread, node: Node) -> Turn
-    requires { (net.n ≤ 16) × Near node }
-    ensures { result ≡ turn_at net t node }
+fn turn_at(net: &Net, t: Thread, node: Node) -> Result<Turn, Refusal>
+    requires { (net.now.n ≤ 16) × Near node }
+    ensures { result ≡ turn_at net.now t node }
 {
-    let threads = net.threads;
-    let free = free_slot(threads, 0, 64);
-    match node {
+    let free = || free_slot(&net.threads, 0..64).ok_or(Refusal::NoSlot);
+    Ok(match node {
         Node::End => Turn::Ends,
-        Node::Act(action, next) => Turn::Acts(action, narrow(next)),
-        Node::Split(first, second) => {
-            if 64 <= free {
-                return Turn::Refuses(Refusal::NoSlot);
-            }
-            Turn::Splits(free, narrow(first), narrow(second))
+        Node::Act(action, next) => Turn::Acts(action, next as u16),
+        Node::Split(first, second) => Turn::Splits(free()?, first as u16, second as u16),
+        Node::Repeat(body) => Turn::Repeats(free()?, body as u16),
+        Node::Depart(own) => {
+            departure_check(net, t, own)?;
+            Turn::Departs(own.controller, own.carried as u16)
         }
-        Node::Repeat(body) => {
-            if 64 <= free {
-                return Turn::Refuses(Refusal::NoSlot);
-            }
-            Turn::Repeats(free, narrow(body))
-        }
-        Node::Depart(own) => match departure_check(net, t, own) {
-            Check::Passes => {
-                let target = own.controller;
-                Turn::Departs(target, narrow(own.carried))
-            }
-            Check::Refuses(why) => Turn::Refuses(why),
-        },
-        Node::Nothing => Turn::Refuses(Refusal::NotSound),
-    }
+    })
 }
 
 // 99, 11, then by node.
-pub fn turn_of(net: Net, slot: usize) -> Turn
-    ensures { result ≡ turned net slot }
+#[tactic(auto, using(crate::proofs::Turns::turns))]
+pub fn turn_of(net: &Net, slot: usize) -> Result<Turn, Refusal>
+    ensures { result ≡ turned net.now slot }
 {
     if !sound(net) {
-        return Turn::Refuses(Refusal::NotSound);
+        return Err(Refusal::NotSound);
     }
-    if 63 < slot {
-        return Turn::Refuses(Refusal::NoThread);
+    let t = thread_at(&net.threads, slot);
+    if 63 < slot || t.is_free() {
+        return Err(Refusal::NoThread);
     }
-    let t = net.threads[slot];
-    if t.controller.0 == 0 {
-        return Turn::Refuses(Refusal::NoThread);
-    }
-    let node = node_at(place_bytes(&net.places, t.place), wide_u16(t.position));
+    let tree = place_bytes(&net.places, t.place);
+    let Some(node) = node_at(tree, usize::from(t.position)) else {
+        return Err(Refusal::NotSound);
+    };
     turn_at(net, t, node)
 }

@@ -9,7 +9,7 @@ use native.Mathlib.Decide.{dec_lt}
 use native.Mathlib.Omega.{arith}
 use lib.Dec.{T, leb→le, le→leb}
 use lib.ListN.{length, get_or}
-use borrow.Author.Tests.{lt-ltb, le-ltb}
+use Rattle.std.proofs.lemmas.Bool.Decides.{nat_tests}
 use Rattle.policy.specs.Counts.{Count, finite, unlimited, count_of, join, Fits, always, enough, Policy, Enforces}
 use Rattle.policy.specs.Bytes.{byte_of, join_byte, table, below, fits_bytes}
 use Rattle.policy.proofs.Counts.{fits_nothing}
@@ -27,10 +27,10 @@ at_most unlimited = omega arith
 
 -- a byte is a number below 255, or unlimited
 count_is : (b : ℕ) → ((b < 255) × (count_of b ≡ finite b)) ⊎ ((255 ≤ b) × (count_of b ≡ unlimited))
-count_is b = elim (dec_lt b 255) [ yes l ↦ inl (l, rw (lt-ltb b 255 l)) | no l ↦ inr (omega arith, rw (le-ltb b 255 (omega arith))) ]
+count_is b = grind (arith, nat_tests)
 
 pub byte_count : (b : ℕ) → b < 256 → byte_of (count_of b) ≡ b
-byte_count b h = elim (count_is b) [ inl n ↦ rw n.1 (omega arith) | inr u ↦ rw u.1 (omega arith) ]
+byte_count b h = grind (arith, nat_tests, count_is)
 
 -- a count fits a byte's exactly if its own byte is not above it
 pub fits_byte : (c : Count) (b : ℕ) → Fits c (count_of b) ↔ (byte_of c ≤ b)

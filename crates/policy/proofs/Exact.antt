@@ -4,11 +4,10 @@ use mathlib.Core.Path.{◌≡◌, refl}
 use mathlib.Core.Bool.{Bool, true, false, ◌&&◌}
 use mathlib.Core.Logic.Iff
 use mathlib.Core.Logic.{◌↔◌}
-use native.Mathlib.Omega.{arith}
 use lib.Dec.{T}
 use Rattle.program.specs.Tree.{Slip, Program, end, act, split, repeat, depart}
 use Rattle.program.specs.Reading.{whole}
-use Rattle.policy.specs.declared.test.Tested.TheVariants.{Passed}
+use Rattle.std.proofs.Common.{Ok}
 use Rattle.policy.specs.Counts.{enough, Within, Policy, slip_allows}
 use Rattle.policy.specs.Needs.{need, FitsAll, Everywhere, Honest}
 use Rattle.policy.specs.Runs.{Keeps, KeepsSlips, Reaches, reach}
@@ -40,13 +39,13 @@ pub exact_honest : (p : Program) → KeepsSlips p ↔ Honest p
 exact_honest p = (everywhere (λ slip q. (exact (slip_allows slip) q).0) p, everywhere (λ slip q. (exact (slip_allows slip) q).1) p)
 
 -- the verdict is that the code passed exactly if both tests pass
-passed : (honest fits : Bool) → (verdict honest fits ≡ Passed) ↔ T (honest && fits)
+passed : (honest fits : Bool) → (verdict honest fits ≡ Ok tt) ↔ T (honest && fits)
 passed true true = (λ e. tt, λ t. refl)
-passed true false = (λ e. let z : ◌≡◌ {A = ℕ} 0 1 = cc in absurd (omega arith), λ t. absurd t)
-passed false fits = (λ e. let z : ◌≡◌ {A = ℕ} 0 1 = cc in absurd (omega arith), λ t. absurd t)
+passed true false = (λ e. let no : ⊥ = cc in absurd no, λ t. absurd t)
+passed false fits = (λ e. let no : ⊥ = cc in absurd no, λ t. absurd t)
 
 -- the test passes exactly if no run uses a name more often than allowed, and each carried program, at any depth, keeps its slip
-pub passes_exactly : (allowed : Policy) (p : Program) (m : ℕ) → (test_of allowed (whole p m) ≡ Passed) ↔ (KeepsSlips p × Keeps allowed p)
+pub passes_exactly : (allowed : Policy) (p : Program) (m : ℕ) → (test_of allowed (whole p m) ≡ Ok tt) ↔ (KeepsSlips p × Keeps allowed p)
 passes_exactly allowed p m = Iff.trans (passed (honestb p) (fits_allb allowed p)) (both_test (honestb p) (fits_allb allowed p) slips keeps)
   where
     slips : T (honestb p) ↔ KeepsSlips p

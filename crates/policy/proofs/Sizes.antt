@@ -1,10 +1,9 @@
 -- Document 01: "A finite need is at most 191".
 use Prim.Native.Nat.{ℕ, zero, suc, ◌+◌, ◌*◌, ◌≤◌}
 use mathlib.Core.Path.{◌≡◌}
-use mathlib.Core.Bool.{Bool, true, false, cond}
 use native.Mathlib.Omega.{arith}
-use lib.Dec.{eqb}
 use lib.ListN.{length, length-append}
+use Rattle.std.proofs.lemmas.Bool.Decides.{nat_tests}
 use Rattle.program.specs.Tree.{encode, Program, end, act, split, repeat, depart}
 use Rattle.policy.specs.Counts.{Count, finite, unlimited, join, often}
 use Rattle.policy.specs.Needs.{same, once, need}
@@ -25,11 +24,7 @@ often_small (finite (suc n)) k h = tt
 often_small unlimited k h = tt
 
 one_at_most : (a α : ℕ) → same a α ≤ 1
-one_at_most a α = pick (eqb a α)
-  where
-    pick : (b : Bool) → cond b 1 0 ≤ 1
-    pick true = omega arith
-    pick false = omega arith
+one_at_most a α = grind (arith, nat_tests)
 
 act_small : (c : Count) (a α k : ℕ) → Small c k → Small (join c (once a α)) (suc (suc k))
 act_small (finite n) a α k h = omega (arith, one_at_most a α)

@@ -1,7 +1,7 @@
 -- The comparisons that the code makes of 32 bytes are the tests: needs against a policy, needs against a slip, a slip against a policy.
 use Prim.Native.Nat.{ℕ, suc, ◌+◌, ◌≤◌, ◌<◌}
 use mathlib.Core.Path.{◌≡◌, refl, sym, ap, ◌∙◌}
-use mathlib.Core.Bool.{Bool, true, false, cond}
+use mathlib.Core.Bool.{Bool, true, false}
 use mathlib.Core.List.{List, [], ◌∷◌}
 use mathlib.Core.Logic.{◌↔◌, inl, inr}
 use native.Mathlib.Omega.{arith}
@@ -9,6 +9,7 @@ use lib.Dec.{T}
 use lib.ListN.{length, get_or, set, length-set, length-replicate, get_or-replicate}
 use lib.Seq.{get_or-set_same, get_or-set_other}
 use borrow.Author.Tests.{lt-ltb, eqb-false, eq-eqb, ne_eqb}
+use Rattle.std.proofs.lemmas.Bool.Decides.{nat_tests}
 use Rattle.program.specs.declared.names.Controller.{Controller}
 use Rattle.program.specs.Tree.{Slip, entry, entries, Rising, Good, Stands, Program, end, act, split, repeat, depart}
 use Rattle.program.specs.Reading.{whole, head_at}
@@ -24,7 +25,7 @@ use Rattle.policy.proofs.Bytes.{byte_count, table_at, Counted, Allows, bytes_tes
 
 -- a name beyond the 32 is neither needed nor allowed
 same_not : (a α : ℕ) → a < α → same a α ≡ 0
-same_not a α h = ap (λ b. cond b 1 0) (ne_eqb a α (λ e. omega arith))
+same_not a α h = grind (arith, nat_tests)
 
 need_beyond : (p : Program) (α : ℕ) → Good p → 32 ≤ α → need p α ≡ finite 0
 unfolding Good

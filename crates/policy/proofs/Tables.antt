@@ -1,82 +1,88 @@
 -- What the code does to 32 counts, and its loops, a step at a time.
 use Prim.Native.Nat.{ℕ, zero, suc, ◌+◌, ◌-◌, ◌≤◌, ◌<◌}
-use mathlib.Core.Path.{◌≡◌, refl, sym, ap, subst, ◌∙◌}
-use mathlib.Core.Bool.{Bool, true, false, ◌&&◌}
+use mathlib.Core.Path.{◌≡◌, refl, sym, ap, ap₂, ◌∙◌}
+use mathlib.Core.Bool.{cond, ◌&&◌}
 use mathlib.Core.List.{List}
-use native.Mathlib.Decide.{dec_lt}
 use native.Mathlib.Numerals.{add-one, sub-one}
 use native.Mathlib.Omega.{arith}
-use lib.Dec.{ltb}
-use lib.ListN.{length, get_or, set}
-use lib.Seq.{set_out}
-use borrow.Author.Tests.{lt-ltb, le-ltb, le-leb, lt-leb}
-use Rattle.policy.specs.Bytes.{below, fits_at, fits_bytes, join_byte, more, slip_counts}
+use lib.Dec.{leb, ltb}
+use lib.ListN.{length, get_or, set, take, drop, length-drop}
+use lib.Seq.{take_all}
+use borrow.Author.Tests.{lt-ltb}
+use Rattle.std.specs.List.{list_all, zip}
+use Rattle.std.proofs.lemmas.List.{get_or-drop}
+use Rattle.std.proofs.lemmas.Bool.Decides.{nat_tests}
+use Rattle.std.proofs.lemmas.List.Folds.{list_all_more}
+use Rattle.std.proofs.lemmas.Slice.Zip.{length-zip, get_or-zip}
+use Rattle.policy.specs.Bytes.{below, fits_at, fits_bytes, slip_counts}
 
--- a name that the counts have, and one that they do not have
-pub add_in : {count : ℕ} (counts : List ℕ) (name times : ℕ) → count ≡ join_byte (get_or counts name 0) times → set counts name count ≡ more counts name times
-add_in counts name times e = ap (set counts name) e
+-- what is counted from an offset is counted of the bytes from there
+counts_from : (s : List ℕ) (n k j : ℕ) (counts : List ℕ) → slip_counts s n (k + j) counts ≡ slip_counts (drop k s) n j counts
+unfolding slip_counts
+counts_from s zero k j counts = refl
+counts_from s (suc n) k j counts =
+    let b : get_or (drop k s) (j + 1) 0 ≡ get_or s (k + j + 1) 0 = get_or-drop k s (j + 1) 0 ∙ ap (λ i. get_or s i 0) (omega arith) in
+    let e : k + j + 1 + 1 ≡ k + (j + 1 + 1) = omega arith in
+    rw (get_or-drop k s j 0, b, inside)
+    (ap (λ l. cond (ltb (k + j + 1) (length s) && ltb (get_or s (k + j) 0) 32) l counts)
+    (ap (λ i. slip_counts s n i (set counts (get_or s (k + j) 0) (get_or s (k + j + 1) 0))) e
+    ∙ counts_from s n k (j + 1 + 1) (set counts (get_or s (k + j) 0) (get_or s (k + j + 1) 0))))
+  where
+    inside : ltb (j + 1) (length (drop k s)) ≡ ltb (k + j + 1) (length s)
+    inside = grind (arith, nat_tests, length-drop {A = ℕ})
 
-pub add_out : (counts : List ℕ) (name times : ℕ) → length counts ≡ 32 → 32 ≤ name → counts ≡ more counts name times
-add_out counts name times l h = sym (set_out counts name _ (omega arith))
+pub counts_start : (s rest : List ℕ) (n left k : ℕ) (counts : List ℕ) → rest ≡ drop k s → left ≡ n → slip_counts s n k counts ≡ slip_counts rest left 0 counts
+counts_start s rest n left k counts e i = rw (e, i) (ap (λ k. slip_counts s n k counts) (omega arith) ∙ counts_from s n k 0 counts)
 
--- the slip's loop: what is left to do does not change what comes of it
-module _ (s : List ℕ) (n k : ℕ) (counts : List ℕ) {w : List ℕ} (is : w ≡ slip_counts s n k counts) where
-  pub counts_done : n ≤ 0 → counts ≡ w
+-- the slip's loop, where n entries are left in the bytes
+pub counts_done : (s : List ℕ) (n : ℕ) (counts : List ℕ) → n ≤ 0 → slip_counts s n 0 counts ≡ counts
+unfolding slip_counts
+counts_done s zero counts h = refl
+counts_done s (suc n) counts h = absurd (omega arith)
+
+module _ (s : List ℕ) (n : ℕ) (counts : List ℕ) where
+  pub counts_cut : length s < 2 → slip_counts s n 0 counts ≡ counts
   unfolding slip_counts
-  counts_done h = sym (is ∙ go n h)
+  counts_cut h = go n
     where
-      go : (n : ℕ) → n ≤ 0 → slip_counts s n k counts ≡ counts
-      go zero h = refl
-      go (suc n) h = absurd (omega arith)
-
-  -- an entry that is none
-  ends : (ltb (k + 1) (length s) && ltb (get_or s k 0) 32) ≡ false → counts ≡ w
-  unfolding slip_counts
-  ends e = sym (is ∙ go n)
-    where
-      go : (n : ℕ) → slip_counts s n k counts ≡ counts
+      go : (n : ℕ) → slip_counts s n 0 counts ≡ counts
       go zero = refl
-      go (suc n) = rw e
+      go (suc n) = grind (arith, nat_tests)
 
-  pub counts_cut : length s ≤ k + 1 → counts ≡ w
-  counts_cut h = ends (rw (le-ltb (k + 1) (length s) h))
-
-  pub counts_past : length s ≤ k → counts ≡ w
-  counts_past h = counts_cut (omega arith)
-
-  pub counts_bad : {name : ℕ} → k + 1 < length s → name ≡ get_or s k 0 → 32 ≤ name → counts ≡ w
-  counts_bad l e h = ends (rw (lt-ltb (k + 1) (length s) l, le-ltb (get_or s k 0) 32 (omega arith)))
-
-  pub counts_next : {name : ℕ} → 0 < n → k + 1 < length s → name ≡ get_or s k 0 → name < 32 → w ≡ slip_counts s (n - 1) (k + 1 + 1) (set counts name (get_or s (k + 1) 0))
+  pub counts_bad : 2 ≤ length s → 32 ≤ get_or s 0 0 → slip_counts s n 0 counts ≡ counts
   unfolding slip_counts
-  counts_next h l e u = is ∙ go n h ∙ ap (λ name. slip_counts s (n - 1) (k + 1 + 1) (set counts name (get_or s (k + 1) 0))) (sym e)
+  counts_bad l h = go n
     where
-      go : (n : ℕ) → 0 < n → slip_counts s n k counts ≡ slip_counts s (n - 1) (k + 1 + 1) (set counts (get_or s k 0) (get_or s (k + 1) 0))
+      go : (n : ℕ) → slip_counts s n 0 counts ≡ counts
+      go zero = refl
+      go (suc n) = grind (arith, nat_tests)
+
+  pub counts_next : (m left : ℕ) → 0 < n → length s ≡ m + 2 → get_or s 0 0 < 32 → left ≡ n - 1 →
+      slip_counts (take m (drop 2 s)) left 0 (set counts (get_or s 0 0) (get_or s 1 0)) ≡ slip_counts s n 0 counts
+  unfolding slip_counts
+  counts_next m left h l u e =
+      rw (e, take_all m (drop 2 s) (omega (arith, length-drop 2 s)))
+      (sym (counts_from s (n - 1) 2 0 (set counts (get_or s 0 0) (get_or s 1 0))) ∙ sym (go n h))
+    where
+      go : (n : ℕ) → 0 < n → slip_counts s n 0 counts ≡ slip_counts s (n - 1) 2 (set counts (get_or s 0 0) (get_or s 1 0))
       go zero h = absurd (omega arith)
-      go (suc n) h = rw (lt-ltb (k + 1) (length s) l, lt-ltb (get_or s k 0) 32 (omega arith), sub-one (suc n))
+      go (suc n) h = rw (lt-ltb 1 (length s) (omega arith), lt-ltb (get_or s 0 0) 32 (omega arith), sub-one (suc n))
 
--- the comparison's loop
-pub fits_start : (counts allowed : List ℕ) → below 0 (fits_at counts allowed) ≡ true
+-- all pairs of two tables pass exactly if the comparison of the tables does
+pairs_below : (counts allowed : List ℕ) (n : ℕ) → n ≤ length counts → n ≤ length allowed →
+    list_all (λ p. leb p.0 p.1) (take n (zip counts allowed)) ≡ below n (fits_at counts allowed)
 unfolding below
-fits_start counts allowed = refl
+pairs_below counts allowed zero h l = refl
+pairs_below counts allowed (suc n) h l =
+    ap (λ m. list_all (λ p. leb p.0 p.1) (take m (zip counts allowed))) (sym (add-one n))
+    ∙ list_all_more (λ p. leb p.0 p.1) (zip counts allowed) n (0, 0) (omega (arith, length-zip counts allowed))
+    ∙ ap₂ ◌&&◌ (pairs_below counts allowed n (omega arith) (omega arith))
+    (ap (λ p. leb p.0 p.1) (get_or-zip counts allowed n (0, 0) (omega arith) (omega arith)))
 
-module _ (counts allowed : List ℕ) (i : ℕ) where
-  pub fits_next : below i (fits_at counts allowed) ≡ true → get_or counts i 0 ≤ get_or allowed i 0 → below (i + 1) (fits_at counts allowed) ≡ true
-  unfolding below
-  fits_next e h = rw (add-one i, e, le-leb (get_or counts i 0) (get_or allowed i 0) h)
+pub pairs_fit : (counts allowed : List ℕ) → length counts ≡ 32 → length allowed ≡ 32 →
+    list_all (λ p. leb p.0 p.1) (zip counts allowed) ≡ fits_bytes counts allowed
+pairs_fit counts allowed h l =
+    ap (list_all (λ p. leb p.0 p.1)) (sym (take_all 32 (zip counts allowed) (omega (arith, length-zip counts allowed))))
+    ∙ pairs_below counts allowed 32 (omega arith) (omega arith)
 
-  pub fits_not : i < 32 → get_or allowed i 0 < get_or counts i 0 → false ≡ fits_bytes counts allowed
-  unfolding below
-  fits_not l h = sym (fails 32 l)
-    where
-      and_false : (b : Bool) → (b && false) ≡ false
-      and_false true = refl
-      and_false false = refl
-
-      fails : (n : ℕ) → i < n → below n (fits_at counts allowed) ≡ false
-      fails zero l = absurd (omega arith)
-      fails (suc n) l = elim (dec_lt i n)
-          [ yes k ↦ rw (fails n k) | no k ↦ let e : i ≡ n = omega arith in rw (← e, lt-leb (get_or counts i 0) (get_or allowed i 0) h, and_false (below i (fits_at counts allowed))) ]
-
-  pub fits_done : 32 ≤ i → i ≤ 32 → below i (fits_at counts allowed) ≡ true → true ≡ fits_bytes counts allowed
-  fits_done l u e = sym (subst (λ n. below n (fits_at counts allowed) ≡ true) (omega arith) e)
+pub ruleset slips = (counts_done, counts_cut, counts_bad, counts_next)

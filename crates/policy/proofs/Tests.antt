@@ -1,13 +1,14 @@
 -- The tests that compute say what the statements say.
 use Prim.Native.Nat.{ℕ}
-use mathlib.Core.Path.{◌≡◌, refl, sym}
+use mathlib.Core.Path.{◌≡◌, refl}
 use mathlib.Core.Bool.{Bool, true, false, ◌&&◌}
 use mathlib.Core.List.Memᴰ
 use mathlib.Core.List.{List, [], ◌∷◌, Memᴰ}
 use mathlib.Core.Logic.Iff
 use mathlib.Core.Logic.{◌↔◌, ◌⊎◌, inl, inr}
 use lib.Dec.{T, eqb, leb→le, le→leb}
-use borrow.Author.Tests.{eqb-true}
+use native.Mathlib.Omega.{arith}
+use Rattle.std.proofs.lemmas.Bool.Decides.{nat_tests}
 use Rattle.program.specs.Tree.{Slip, entry, Program, end, act, split, repeat, depart}
 use Rattle.policy.specs.Counts.{Count, finite, unlimited, Fits, always, enough, Policy, Enforces, slip_allows}
 use Rattle.policy.specs.Needs.{need, FitsAll, Honest}
@@ -52,11 +53,7 @@ fits_on_test l U allowed only = (λ t α. elim (only α) [ inl e ↦ rw e (fits_
 
 -- two names differ, or they are the same
 pub apart : (a α : ℕ) → (eqb a α ≡ false) ⊎ (α ≡ a)
-apart a α = go (eqb a α) refl
-  where
-    go : (b : Bool) → eqb a α ≡ b → (eqb a α ≡ false) ⊎ (α ≡ a)
-    go true e = inr (sym (eqb-true a α e))
-    go false e = inl e
+apart a α = grind (arith, nat_tests)
 
 needs_only : (p : Program) → Only (names p) (need p)
 needs_only end α = inl refl

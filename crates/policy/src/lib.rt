@@ -6,4 +6,4 @@ mod tally;
 mod test;
 
 pub use tally::{Tally, needs_at};
-pub use test::{Tested, test_code, test_slip};
+pub use test::{CodeFault, test_code, test_slip};

@@ -1,7 +1,7 @@
 -- Reading a beginning of the bytes finds what reading all of them finds, as far as the beginning shows it; so faults come in the order of
 -- their bytes. Assumes nothing.
 use mathlib.Core.Path.{◌≡◌, refl, sym, ap, subst, ◌∙◌}
-use mathlib.Core.List.{List, [], ◌∷◌}
+use mathlib.Core.List.{List}
 use mathlib.Core.Bool.{Bool, true, false}
 use Prim.Native.Nat.{ℕ, zero, suc, ◌+◌, ◌≤◌, ◌<◌}
 use native.Mathlib.Omega.{arith}
@@ -10,8 +10,7 @@ use lib.ListN.{length, get_or, take, length-take}
 use lib.Seq.{get_or-take, take_all}
 use lib.Dec.{ltb, leb}
 use borrow.Author.Tests.{lt-ltb, le-ltb, ltb-true, ltb-false}
-use Rattle.program.specs.Names.{action, controller}
-use Rattle.program.specs.Tree.{Slip, entry, Program, act, split, repeat, depart}
+use Rattle.program.specs.Tree.{Program}
 use Rattle.program.specs.Reading.{Found, whole, cut, bad, and_then, judge, byte_at, Kind, ends, acts, splits, repeats, departs, kind_by, kind_at, entry_at, slip_at, head_at, depart_at, inside_at, step, read_by, read_at}
 use Rattle.program.specs.Faults.{InOrder}
 use Rattle.program.proofs.Found.{byte_cut}

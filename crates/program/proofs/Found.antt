@@ -1,41 +1,20 @@
 -- What one byte's check gives, and what comes after a value: forwards from the tests, and back from a whole answer. Assumes nothing.
 use mathlib.Core.Path.{◌≡◌, refl, ap, subst₂}
 use mathlib.Core.List.{List}
-use mathlib.Core.Bool.{Bool, true, false}
-use Prim.Native.Nat.{ℕ, ◌+◌, ◌≤◌, ◌<◌}
-use native.Mathlib.Omega.{arith}
+use Prim.Native.Nat.{ℕ, ◌≤◌, ◌<◌}
 use lib.ListN.{length, get_or}
-use lib.Dec.{ltb, leb}
-use borrow.Author.Tests.{lt-ltb, le-ltb, le-leb, lt-leb, ltb-true, leb-true}
+use native.Mathlib.Omega.{arith}
+use Rattle.std.proofs.lemmas.Bool.Decides.{nat_tests}
 use Rattle.program.specs.Reading.{Found, whole, cut, bad, and_then, judge, byte_at}
 
 module _ {A : Type 0} (s : List ℕ) (k lo hi : ℕ) (f : ℕ → Found A) where
   pub byte_cut : length s ≤ k → byte_at s k lo hi f ≡ cut
   unfolding byte_at judge
-  byte_cut h = rw (le-ltb k (length s) h)
-
-  pub byte_low : k < length s → get_or s k 0 < lo → byte_at s k lo hi f ≡ bad k
-  unfolding byte_at judge
-  byte_low h l = rw (lt-ltb k (length s) h, lt-leb lo (get_or s k 0) l)
-
-  pub byte_high : k < length s → hi ≤ get_or s k 0 → byte_at s k lo hi f ≡ bad k
-  unfolding byte_at judge
-  byte_high h l = rw (lt-ltb k (length s) h, le-ltb (get_or s k 0) hi l) (go (leb lo (get_or s k 0)))
-    where
-      go : (t : Bool) → judge true t false k (get_or s k 0) f ≡ bad k
-      go true = refl
-      go false = refl
+  byte_cut h = grind (arith, nat_tests)
 
   pub byte_is : k < length s → lo ≤ get_or s k 0 → get_or s k 0 < hi → byte_at s k lo hi f ≡ f (get_or s k 0)
   unfolding byte_at judge
-  byte_is h l u = rw (lt-ltb k (length s) h, le-leb lo (get_or s k 0) l, lt-ltb (get_or s k 0) hi u)
-
--- the three answers differ
-pub cut_not : {A : Type 0} {v : A} {m : ℕ} → cut ≡ whole v m → ⊥
-cut_not e = let z : ◌≡◌ {A = ℕ} 0 1 = cc in omega arith
-
-pub bad_not : {A : Type 0} {v : A} {m o : ℕ} → bad o ≡ whole v m → ⊥
-bad_not e = let z : ◌≡◌ {A = ℕ} 0 1 = cc in omega arith
+  byte_is h l u = grind (arith, nat_tests)
 
 -- equal whole answers have equal values and offsets
 pub whole_as : {A : Type 0} {x y : A} {j m : ℕ} (P : A → ℕ → Type 0) → whole x j ≡ whole y m → P x j → P y m
@@ -48,22 +27,15 @@ whole_as {x = x} {y = y} {j = j} {m = m} P e t =
 pub byte_inv : {A : Type 0} {v : A} {m : ℕ} (s : List ℕ) (k lo hi : ℕ) (f : ℕ → Found A) → byte_at s k lo hi f ≡ whole v m →
     (k < length s) × (lo ≤ get_or s k 0) × (get_or s k 0 < hi) × (f (get_or s k 0) ≡ whole v m)
 unfolding byte_at judge
-byte_inv {A} {v} {m} s k lo hi f = go (ltb k (length s)) (leb lo (get_or s k 0)) (ltb (get_or s k 0) hi) refl refl refl
-  where
-    go : (x y z : Bool) → ltb k (length s) ≡ x → leb lo (get_or s k 0) ≡ y → ltb (get_or s k 0) hi ≡ z → judge x y z k (get_or s k 0) f ≡ whole v m →
-        (k < length s) × (lo ≤ get_or s k 0) × (get_or s k 0 < hi) × (f (get_or s k 0) ≡ whole v m)
-    go false y z p q r e = absurd (cut_not e)
-    go true false z p q r e = absurd (bad_not e)
-    go true true false p q r e = absurd (bad_not e)
-    go true true true p q r e = (ltb-true _ _ p, leb-true _ _ q, ltb-true _ _ r, e)
+byte_inv s k lo hi f e = grind (arith, nat_tests)
 
 -- a whole answer: what came first was whole
 pub then_inv : {A B : Type 0} {v : B} {e : ℕ} (o : Found A) (f : A → ℕ → Found B) → and_then o f ≡ whole v e →
     (a : A) × (m : ℕ) × (o ≡ whole a m) × (f a m ≡ whole v e)
 unfolding and_then
 then_inv (whole a m) f h = (a, m, refl, h)
-then_inv cut f h = absurd (cut_not h)
-then_inv (bad o) f h = absurd (bad_not h)
+then_inv cut f h = cc
+then_inv (bad o) f h = cc
 
 pub then_is : {A B : Type 0} {a : A} {m : ℕ} {o : Found A} (f : A → ℕ → Found B) → o ≡ whole a m → and_then o f ≡ f a m
 unfolding and_then

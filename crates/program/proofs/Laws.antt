@@ -1,6 +1,6 @@
 -- The laws of reading. Assumes nothing.
-use mathlib.Core.Path.{◌≡◌, refl, sym, ap, ◌∙◌}
-use mathlib.Core.List.{List, [], ◌∷◌, ◌++◌}
+use mathlib.Core.Path.{◌≡◌, refl, ap, ◌∙◌}
+use mathlib.Core.List.{List, ◌++◌}
 use mathlib.Core.Logic.{◌↔◌}
 use Prim.Native.Nat.{ℕ, suc, ◌+◌, ◌≤◌, ◌<◌}
 use native.Mathlib.Omega.{arith}
@@ -8,10 +8,10 @@ use lib.ListN.{length, drop}
 use Rattle.program.specs.declared.names.Action.{Action}
 use Rattle.program.specs.declared.names.Controller.{Controller}
 use Rattle.program.specs.Tree.{Slip, Program, end, act, split, repeat, depart, entries, encode, Good, Stands}
-use Rattle.program.specs.Reading.{Found, whole, Kind, ends, acts, splits, repeats, departs, head_at, read_at}
+use Rattle.program.specs.Reading.{whole, ends, acts, splits, repeats, departs, head_at, read_at}
 use Rattle.program.proofs.Stands.{more, first, parts, elsewhere}
 use Rattle.program.proofs.Parts.{start_bytes, start_back, head_bytes, head_back}
-use Rattle.program.proofs.Step.{Node, n_end, n_act, n_split, n_repeat, n_depart, step_con, by_is, by_grows, read_step}
+use Rattle.program.proofs.Step.{n_end, n_act, n_split, n_repeat, n_depart, step_con, by_is, by_grows, read_step}
 
 -- what was read is exactly its own bytes, and well formed
 pub bytes_are : (s : List ℕ) (k : ℕ) {p : Program} {m : ℕ} → read_at s k ≡ whole p m → Stands s k (encode p) m × Good p

@@ -5,9 +5,7 @@ pub mod Parts
 pub mod Step
 pub mod Laws
 pub mod Faults
-pub mod Named
-pub mod Slips
-pub mod Starts
+pub mod Shows
 pub mod Ways
 pub mod Nodes
 pub mod Envelopes

@@ -1,13 +1,13 @@
 -- What reading finds is exactly the bytes that stand there: of a node's start, of a slip, of a departure's own bytes. Assumes nothing.
 use mathlib.Core.Path.{◌≡◌, refl, sym, ap, ◌∙◌}
-use mathlib.Core.List.{List, [], ◌∷◌, ◌++◌}
-use Prim.Native.Nat.{ℕ, zero, suc, ◌+◌, ◌≤◌, ◌<◌}
+use mathlib.Core.List.{List, [], ◌∷◌}
+use Prim.Native.Nat.{ℕ, zero, suc, ◌+◌, ◌-◌, ◌≤◌, ◌<◌}
+use native.Mathlib.Numerals.{sub-one}
 use native.Mathlib.Omega.{arith}
 use lib.ListN.{length, get_or}
 use Rattle.program.specs.declared.names.Controller.{Controller}
-use Rattle.program.specs.Names.{action, controller}
 use Rattle.program.specs.Tree.{Slip, entry, entries, Rising, Stands}
-use Rattle.program.specs.Reading.{Found, whole, cut, bad, and_then, byte_at, Kind, ends, acts, splits, repeats, departs, kind_by, kind_at, entry_at, slip_at, head_at}
+use Rattle.program.specs.Reading.{Found, whole, Kind, ends, acts, splits, repeats, departs, kind_by, kind_at, entry_at, slip_at, head_at}
 use Rattle.program.proofs.Found.{whole_as, byte_is, byte_inv, then_inv, then_is}
 use Rattle.program.proofs.Stands.{none, more, first}
 
@@ -71,11 +71,20 @@ entry_is {slip} {n} {m} rest s low k later e =
     whole_as (λ sl j. Stands s k (entries sl) j × Rising low sl × (length sl ≡ suc n)) t.3
     (more x.0 refl (more c.0 refl r.0), (x.1, x.2, c.1, c.2, r.1), ap suc r.2)
 
+-- one entry, and those after it
+pub slip_step : (s : List ℕ) (n low k : ℕ) → 0 < n → slip_at s n low k ≡ entry_at (λ l. slip_at s (n - 1) l (k + 1 + 1)) s low k
+unfolding slip_at
+slip_step s zero low k h = absurd (omega arith)
+slip_step s (suc n) low k h = rw (sub-one (suc n))
+
 pub slip_is : (s : List ℕ) (n low k : ℕ) {slip : Slip} {m : ℕ} → slip_at s n low k ≡ whole slip m →
     Stands s k (entries slip) m × Rising low slip × (length slip ≡ n)
 unfolding slip_at entries Rising
 slip_is s zero low k e = whole_as (λ sl j. Stands s k (entries sl) j × Rising low sl × (length sl ≡ 0)) e (none k, tt, refl)
 slip_is s (suc n) low k e = entry_is _ s low k (λ l slip m. slip_is s n l (k + 1 + 1)) e
+
+pub slip_long : (s : List ℕ) (n low k : ℕ) (slip : Slip) (m : ℕ) → slip_at s n low k ≡ whole slip m → length slip ≡ n
+slip_long s n low k slip m e = (slip_is s n low k e).2
 
 pub slip_back : (s : List ℕ) (slip : Slip) (low k : ℕ) {m : ℕ} → Rising low slip → Stands s k (entries slip) m → slip_at s (length slip) low k ≡ whole slip m
 unfolding slip_at entry_at entries Rising

@@ -1,15 +1,15 @@
 -- A whole program is a node with the programs inside it, each where it stands; and reading at k is one step over reading further on,
 -- whatever bounds the depth. Assumes nothing.
 use mathlib.Core.Path.{◌≡◌, refl, sym, ap, ◌∙◌}
-use mathlib.Core.List.{List, [], ◌∷◌, ◌++◌}
+use mathlib.Core.List.{List}
 use Prim.Native.Nat.{ℕ, zero, suc, ◌+◌, ◌≤◌, ◌<◌}
 use native.Mathlib.Omega.{arith}
 use lib.ListN.{length}
 use Rattle.program.specs.declared.names.Action.{Action}
 use Rattle.program.specs.declared.names.Controller.{Controller}
-use Rattle.program.specs.Tree.{Slip, Program, end, act, split, repeat, depart, entries, encode, Rising, Good, Stands}
-use Rattle.program.specs.Reading.{Found, whole, cut, bad, and_then, Kind, ends, acts, splits, repeats, departs, kind_at, head_at, depart_at, inside_at, step, read_by, read_at}
-use Rattle.program.proofs.Found.{byte_cut, cut_not, then_inv, then_is, then_same, whole_as}
+use Rattle.program.specs.Tree.{Slip, Program, end, act, split, repeat, depart, encode, Good, Stands}
+use Rattle.program.specs.Reading.{Found, whole, cut, and_then, Kind, ends, acts, splits, repeats, departs, kind_at, head_at, depart_at, inside_at, step, read_by, read_at}
+use Rattle.program.proofs.Found.{byte_cut, then_inv, then_is, then_same, whole_as}
 use Rattle.program.proofs.Stands.{after, inside}
 use Rattle.program.proofs.Parts.{start_bytes, start_is, head_is}
 
@@ -75,7 +75,7 @@ node_is {s = s} {k = k} later (n_depart h r r') =
 
 pub by_is : (depth : ℕ) (s : List ℕ) (k : ℕ) (p : Program) (m : ℕ) → read_by depth s k ≡ whole p m → Stands s k (encode p) m × Good p
 unfolding read_by
-by_is zero s k p m e = absurd (cut_not e)
+by_is zero s k p m e = cc
 by_is (suc depth) s k p m e = node_is (by_is depth s) (step_inv (read_by depth s) s k e)
 
 -- a program's bytes are one or more, and so are a node's start's: what is read ends behind its start, and inside the bytes

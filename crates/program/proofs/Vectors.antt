@@ -3,10 +3,11 @@ use mathlib.Core.Path.{◌≡◌, refl}
 use mathlib.Core.List.{List, [], ◌∷◌, ◌++◌}
 use Prim.Native.Nat.{ℕ, zero, suc, ◌+◌}
 use lib.ListN.{length}
-use Rattle.program.specs.declared.envelope.Envelope.TheVariants.{Right, Fewer, Length, Version}
+use Rattle.std.proofs.Common.{Ok, Err}
+use Rattle.program.specs.declared.envelope.EnvelopeFault.TheVariants.{Fewer, Length, Version}
 use Rattle.program.specs.Names.{action, controller}
 use Rattle.program.specs.Tree.{Slip, entry, entries, Program, end, act, split, repeat, depart}
-use Rattle.program.specs.Reading.{Found, whole, cut, bad, and_then, judge, byte_at, kind_by, kind_at, entry_at, slip_at, head_at, depart_at, inside_at, step, read_by, read_at}
+use Rattle.program.specs.Reading.{whole, cut, bad, and_then, judge, byte_at, kind_by, kind_at, entry_at, slip_at, head_at, depart_at, inside_at, step, read_by, read_at}
 use Rattle.program.specs.Envelope.{envelope}
 
 abbrev strokes : Program → Program
@@ -45,13 +46,13 @@ faults = (refl, refl, refl, refl, refl, refl, refl, refl, refl, refl, refl, refl
 
 -- the envelopes of case 11
 pub envelopes :
-    (envelope 2 385 [] ≡ Fewer)
-    × (envelope 2 385 (0 ∷ 1 ∷ 1 ∷ []) ≡ Length)
-    × (envelope 2 385 (0 ∷ 2 ∷ 2 ∷ 0 ∷ []) ≡ Version)
-    × (envelope 2 385 (0 ∷ 2 ∷ 1 ∷ 5 ∷ []) ≡ Right)
-    × (envelope 2 385 (1 ∷ 130 ∷ 1 ∷ []) ≡ Length)
-    × (envelope 2 385 (1 ∷ 129 ∷ 1 ∷ []) ≡ Fewer)
-    × (envelope 2 385 (0 ∷ 2 ∷ 1 ∷ 0 ∷ 0 ∷ []) ≡ Length)
+    (envelope 2 385 [] ≡ Err Fewer)
+    × (envelope 2 385 (0 ∷ 1 ∷ 1 ∷ []) ≡ Err Length)
+    × (envelope 2 385 (0 ∷ 2 ∷ 2 ∷ 0 ∷ []) ≡ Err Version)
+    × (envelope 2 385 (0 ∷ 2 ∷ 1 ∷ 5 ∷ []) ≡ Ok tt)
+    × (envelope 2 385 (1 ∷ 130 ∷ 1 ∷ []) ≡ Err Length)
+    × (envelope 2 385 (1 ∷ 129 ∷ 1 ∷ []) ≡ Err Fewer)
+    × (envelope 2 385 (0 ∷ 2 ∷ 1 ∷ 0 ∷ 0 ∷ []) ≡ Err Length)
 unfolding envelope
 envelopes = (refl, refl, refl, refl, refl, refl, refl)
 

@@ -6,7 +6,7 @@ mod names;
 mod node;
 mod reader;
 
-pub use envelope::{Envelope, body, envelope_of};
-pub use names::{Action, ActionByte, Controller, ControllerByte, action_of, controller_of};
+pub use envelope::{EnvelopeFault, body, envelope_of};
+pub use names::{Action, Controller, Unnamed};
 pub use node::{Node, node_at};
-pub use reader::{Departure, Head, Read, Start, head_at, read_program, start_at};
+pub use reader::{Departure, Fault, Start, head_at, read_program, start_at};

@@ -1,33 +1,31 @@
-// Reads a program's tree in prefix form, left to right; each byte is judged where it stands, by the bytes before it.
-ghost use Rattle.std.specs.Prelude.{◌≡◌};
+// Reads a program's tree in prefix form, left to right; each byte is judged where it stands, by the bytes before it. Tree and
+// offset are two arguments and no cursor: a split has two offsets in one tree, and a fault and a thread name theirs.
+ghost use Rattle.std.specs.Prelude.{◌≡◌, ◌+◌};
 ghost use Rattle.program.specs.Reading.{kind_at, slip_at, head_at, depart_at, read_at};
-ghost use Rattle.program.specs.Shown.{shown, shown_start, shown_head};
+ghost use Rattle.program.specs.Shown.{shown, shown_byte, shown_start, shown_head};
 
-use crate::names::{Action, ActionByte, Controller, ControllerByte, action_of, controller_of};
+use crate::names::{Action, Controller};
 
-// What reading finds: all of it, with the offset after it; the bytes' end before that; or a byte, at this offset, with no
-// meaning at its place.
-#[derive(Clone, Copy)]
-pub enum Read {
-    Whole(usize),
+// Why there is nothing to read: the bytes end before it does, or the byte at this offset has no meaning at its place.
+#[derive(Clone, Copy, Debug, PartialEq, Eq)]
+pub enum Fault {
     Cut,
     Bad(usize),
 }
 
 // What a node's first byte says, and an act's action; each with where the rest of the node begins.
-#[derive(Clone, Copy)]
+#[derive(Clone, Copy, Debug, PartialEq, Eq)]
 pub enum Start {
     End(usize),
     Act(Action, usize),
     Split(usize),
     Repeat(usize),
     Depart(usize),
-    Cut,
-    Bad(usize),
 }
 
-// A departure's own bytes: its controller, where its slip's entries stand, how many they are, and where the carried program begins.
-#[derive(Clone, Copy)]
+// A departure's own bytes: its controller, where its slip's entries stand, how many they are, and where the carried
+// program begins.
+#[derive(Clone, Copy, Debug, PartialEq, Eq)]
 pub struct Departure {
     pub controller: Controller,
     pub slip: usize,
@@ -35,133 +33,105 @@ pub struct Departure {
     pub carried: usize,
 }
 
-#[derive(Clone, Copy)]
-pub enum Head {
-    Whole(Departure),
-    Cut,
-    Bad(usize),
+// The byte at `at`, whatever it says.
+#[tactic(auto, unfolding(crate::specs::Reading::byte_at, crate::specs::Reading::judge))]
+fn byte(tree: &[u8], at: usize) -> Result<u8, Fault>
+    ensures { result ≡ shown_byte tree.now at 0 256 }
+{
+    tree.get(at).copied().ok_or(Fault::Cut)
+}
+
+// The byte at `at`, which has a meaning from `low` to `last`.
+#[tactic(auto, unfolding(crate::specs::Reading::byte_at, crate::specs::Reading::judge))]
+fn byte_in(tree: &[u8], at: usize, low: u8, last: u8) -> Result<u8, Fault>
+    ensures { result ≡ shown_byte tree.now at low (last + 1) }
+{
+    let b = byte(tree, at)?;
+    if low <= b && b <= last {
+        Ok(b)
+    } else {
+        Err(Fault::Bad(at))
+    }
 }
 
 // The start of the node at `at`.
-pub fn start_at(tree: &[u8], at: usize) -> Start
+#[tactic(auto, unfolding(crate::specs::Reading::kind_at, crate::specs::Reading::kind_by, crate::specs::Reading::byte_at, crate::specs::Reading::judge))]
+pub fn start_at(tree: &[u8], at: usize) -> Result<Start, Fault>
     ensures { result ≡ shown_start (kind_at tree.now at) }
 {
-    if tree.len() <= at {
-        return Start::Cut;
-    }
+    let kind = byte_in(tree, at, 0, 4)?;
     let next = at + 1;
-    match tree[at] {
+    Ok(match kind {
         0 => Start::End(next),
         1 => {
-            if tree.len() <= next {
-                return Start::Cut;
-            }
-            match action_of(tree[next]) {
-                ActionByte::Is(action) => Start::Act(action, next + 1),
-                ActionByte::Not => Start::Bad(next),
-            }
+            let action = Action::try_from(byte(tree, next)?).map_err(|_| Fault::Bad(next))?;
+            Start::Act(action, next + 1)
         }
         2 => Start::Split(next),
         3 => Start::Repeat(next),
-        4 => Start::Depart(next),
-        _ => Start::Bad(at),
-    }
+        _ => Start::Depart(next),
+    })
 }
 
 // `n` slip entries from `at`, names rising strictly, no count 0.
-fn read_slip(tree: &[u8], at: usize, n: u8) -> Read
+#[tactic(auto, using(crate::proofs::Parts::slip_step), unfolding(crate::specs::Reading::entry_at, crate::specs::Reading::byte_at, crate::specs::Reading::judge, crate::specs::Reading::and_then, crate::specs::Reading::slip_at))]
+fn read_slip(tree: &[u8], at: usize, n: u8) -> Result<usize, Fault>
     ensures { result ≡ shown (slip_at tree.now n 0 at) }
 {
+    // Counted on beside the loop, since a fault names it.
     let mut k = at;
-    let mut left = n;
-    let mut low: u8 = 0;
-    while 0 < left {
-        if tree.len() <= k {
-            return Read::Cut;
-        }
-        let name = tree[k];
-        if name < low {
-            return Read::Bad(k);
-        }
-        if 32 <= name {
-            return Read::Bad(k);
-        }
+    let mut low = 0;
+    for _ in 0..n {
+        let name = byte_in(tree, k, low, 31)?;
         let count = k + 1;
-        if tree.len() <= count {
-            return Read::Cut;
-        }
-        if tree[count] < 1 {
-            return Read::Bad(count);
-        }
+        byte_in(tree, count, 1, 255)?;
         low = name + 1;
         k = count + 1;
-        left -= 1;
     }
-    Read::Whole(k)
+    Ok(k)
 }
 
 // A departure's own bytes, from its controller's, at `at`.
-pub fn head_at(tree: &[u8], at: usize) -> Head
+#[tactic(auto, using(crate::proofs::Parts::slip_long), unfolding(crate::specs::Reading::head_at, crate::specs::Reading::byte_at, crate::specs::Reading::judge, crate::specs::Reading::and_then))]
+pub fn head_at(tree: &[u8], at: usize) -> Result<Departure, Fault>
     ensures { result ≡ shown_head at (head_at tree.now at) }
 {
-    if tree.len() <= at {
-        return Head::Cut;
-    }
-    let ControllerByte::Is(controller) = controller_of(tree[at]) else {
-        return Head::Bad(at);
-    };
+    let controller = Controller::try_from(byte(tree, at)?).map_err(|_| Fault::Bad(at))?;
     let count = at + 1;
-    if tree.len() <= count {
-        return Head::Cut;
-    }
-    let entries = tree[count];
-    if 32 < entries {
-        return Head::Bad(count);
-    }
-    let first = count + 1;
-    match read_slip(tree, first, entries) {
-        Read::Whole(carried) => Head::Whole(Departure {
-            controller,
-            slip: first,
-            entries,
-            carried,
-        }),
-        Read::Cut => Head::Cut,
-        Read::Bad(o) => Head::Bad(o),
-    }
+    let entries = byte_in(tree, count, 0, 32)?;
+    let slip = count + 1;
+    Ok(Departure {
+        controller,
+        slip,
+        entries,
+        carried: read_slip(tree, slip, entries)?,
+    })
 }
 
 // The program whose first byte is at `at`.
 #[cycle(read_departure_read_program)]
-pub fn read_program(tree: &[u8], at: usize) -> Read
+#[tactic(auto, using(crate::proofs::Ways::ways))]
+pub fn read_program(tree: &[u8], at: usize) -> Result<usize, Fault>
     ensures { result ≡ shown (read_at tree.now at) }
 {
-    match start_at(tree, at) {
-        Start::End(next) => Read::Whole(next),
+    match start_at(tree, at)? {
+        Start::End(next) => Ok(next),
         Start::Act(_, next) => read_program(tree, next),
-        Start::Split(first) => match read_program(tree, first) {
-            Read::Whole(second) => read_program(tree, second),
-            Read::Cut => Read::Cut,
-            Read::Bad(o) => Read::Bad(o),
-        },
+        Start::Split(first) => {
+            let second = read_program(tree, first)?;
+            read_program(tree, second)
+        }
         Start::Repeat(body) => read_program(tree, body),
         Start::Depart(own) => read_departure(tree, own),
-        Start::Cut => Read::Cut,
-        Start::Bad(o) => Read::Bad(o),
     }
 }
 
 // The rest of a departure, from its controller's byte, at `at`, to the end of the program that it carries.
 #[cycle(read_departure_read_program)]
-fn read_departure(tree: &[u8], at: usize) -> Read
+#[tactic(auto, using(crate::proofs::Ways::ways))]
+fn read_departure(tree: &[u8], at: usize) -> Result<usize, Fault>
     ensures { result ≡ shown (depart_at (read_at tree.now) tree.now at) }
 {
-    match head_at(tree, at) {
-        Head::Whole(own) => {
-            let carried = own.carried;
-            read_program(tree, carried)
-        }
-        Head::Cut => Read::Cut,
-        Head::Bad(o) => Read::Bad(o),
-    }
+    let own = head_at(tree, at)?;
+    read_program(tree, own.carried)
 }

@@ -164,9 +164,6 @@ module _ (trusty : Controller → Bool) (allowed : Controller → Policy) (v : �
   -- a stay BEGINS
   module _ (s : ℕ) (c : Controller) (x : ℕ) (p : Program) (v' : ℕ → Held) (s-low : s < 65) (free : v s ≡ nobody) (new : v' s ≡ held c p x) (rest : (j : ℕ) → j ≢ s → v' j ≡ v j)
       (fresh : (i : ℕ) (k : Controller) (y : ℕ) (q : Program) → v i ≡ held k q y → x ≢ y) (honest : T (trusty c) → Honest p) (fits : T (trusty c) → (α : ℕ) → Fits (need p α) (allowed c α)) where
-    b'' : Ledger
-    b'' = begins b s c
-
     -- the new thread, or one that was there
     data Or (i : ℕ) (k : Controller) (y : ℕ) (q : Program) : Type 0 where
       newly : i ≡ s → k ≡ c → y ≡ x → q ≡ p → Or i k y q

@@ -1,5 +1,5 @@
 -- The rows of entry refuse exactly what the paper does not admit, and what enters a trustworthy controller keeps its policy. Assumes nothing.
-use Rattle.std.proofs.Common.{◌≡◌, ℕ, Bool, true, false, cond, not, T, ◌↔◌, List, sym, refl, ap, ◌∙◌, subst, arith, eqb→eq}
+use Rattle.std.proofs.Common.{◌≡◌, ℕ, Bool, true, false, cond, not, T, ◌↔◌, sym, refl, subst, arith, eqb→eq}
 use Rattle.program.specs.declared.names.Controller.{Controller}
 use Rattle.program.specs.Tree.{Slip, Program, depart}
 use Rattle.policy.specs.Counts.{Policy, Enforces, slip_allows}
@@ -13,9 +13,9 @@ use Rattle.policy.proofs.Figures.{figure_6}
 use Rattle.rules.specs.declared.net.Net.{Net}
 use Rattle.rules.specs.Rows.{NoneHolds}
 use Rattle.rules.specs.Nets.{in_net, trust, good, trustworthy, allows}
-use Rattle.rules.specs.Calls.{Look, bytes_only, the_slip, the_code, entry_rows, at_launch, at_entry}
+use Rattle.rules.specs.Calls.{Look, the_slip, the_code, entry_rows, at_launch, at_entry}
 use Rattle.rules.specs.Paper.{Admits, by_digest, by_code, ◌<:◌, unknown, equal, Coherent}
-use Rattle.rules.proofs.Rows.{never, true_T, not_T, T_true, T_not, passed, passes}
+use Rattle.rules.proofs.Rows.{true_T, not_T, T_true, T_not, passed, passes}
 
 module _ (allowed : Policy) (slip : Slip) (p : Program) where
   -- code that is tested passes exactly if it is honest and its needs fit

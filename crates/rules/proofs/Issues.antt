@@ -1,53 +1,14 @@
--- One slot of a search through the slots, one number of a search through numbers, and that trying one candidate after the other finds the pass
--- that the rules name. Assumes nothing.
-use Rattle.std.proofs.Common.{◌≡◌, ℕ, zero, suc, ◌+◌, ◌-◌, ◌%◌, ◌<◌, ◌≤◌, Bool, true, false, cond, not, ◌&&◌, ◌||◌, eqb, List, [], length, get_or, drop, replicate, sym, refl, ap, ◌∙◌, add-one, arith, drop_of_length-le, drop-cons, rules, eq-eqb, ne_eqb}
+-- One number of a search through numbers, and that trying one candidate after the other finds the pass that the rules
+-- name. Assumes nothing.
+use Rattle.std.proofs.Common.{◌≡◌, ℕ, zero, suc, ◌+◌, ◌-◌, ◌%◌, ◌<◌, ◌≤◌, Bool, true, false, cond, not, List, [], length, replicate, sym, refl, ap, ◌∙◌, arith}
 use mathlib.Core.Path.{fun_ext}
 use lib.ListN.{length-replicate}
 use Rattle.rules.specs.declared.net.Thread.{Thread}
-use Rattle.rules.specs.declared.net.Counter.{Counter}
-use Rattle.rules.specs.declared.net.Issued.{Issued}
 use Rattle.rules.specs.declared.net.Net.{Net}
-use Rattle.rules.specs.Nets.{zero_thread, has, some, carried, candidate, lowest_from, over_in, pass_in}
+use Rattle.rules.specs.Nets.{carried, lowest_from, over_in, pass_in}
 use Rattle.rules.specs.Issued.{issued_by}
 use Rattle.rules.proofs.Search.{lowest_is}
 use Rattle.rules.proofs.Pass.{first_free}
-
--- a thread that has a number, by the tests on it
-module _ (field : Thread → ℕ) (x : ℕ) (t : Thread) where
-  pub has_none : t.controller.0 ≡ 0 → false ≡ has field x t
-  has_none h = rw (eq-eqb t.controller.0 0 h)
-
-  pub has_own : (t.controller.0 ≡ 0 → ⊥) → eqb (field t) x ≡ has field x t
-  has_own h = rw (ne_eqb t.controller.0 0 h)
-
--- of 64 threads those from i on say whether some thread passes
-pub record Seen (f : Thread → Bool) (threads : List Thread) (i : ℕ) : Type 0 where
-  pub long : length threads ≡ 64
-  pub upto : i ≤ 64
-  pub rest : some f threads ≡ some f (drop i threads)
-
-pub seen_none : (f : Thread → Bool) (threads : List Thread) → length threads ≡ 64 → Seen f threads 0
-seen_none f threads l = record { long = l; upto = omega arith; rest = refl }
-
-module _ (f : Thread → Bool) (threads : List Thread) (i : ℕ) (s : Seen f threads i) where
-  at_slot : i < length threads → some f (drop i threads) ≡ (f (get_or threads i zero_thread) || some f (drop (i + 1) threads))
-  unfolding some
-  at_slot h = rw (drop-cons threads i zero_thread h, add-one)
-
-  module _ {b : Bool} (h : i < 64) (e : b ≡ f (get_or threads i zero_thread)) where
-    pub seen_here : b ≡ true → some f threads ≡ true
-    seen_here t = s.rest ∙ at_slot (omega (arith, s.long)) ∙ ap (λ b. b || some f (drop (i + 1) threads)) (sym e ∙ t)
-
-    pub seen_next : b ≡ false → Seen f threads (i + 1)
-    seen_next t = record {
-      long = s.long;
-      upto = omega arith;
-      rest = s.rest ∙ at_slot (omega (arith, s.long)) ∙ ap (λ b. b || some f (drop (i + 1) threads)) (sym e ∙ t);
-    }
-
-  pub seen_all : 64 ≤ i → some f threads ≡ false
-  unfolding some
-  seen_all h = s.rest ∙ ap (some f) (drop_of_length-le threads {i = i} (omega (arith, s.long)))
 
 -- the numbers from k up to e
 module _ (f : ℕ → Bool) (k e : ℕ) where
@@ -61,10 +22,6 @@ module _ (f : ℕ → Bool) (k e : ℕ) where
 
   pub lowest_next : k < e → f k ≡ false → lowest_from f k (e - k) ≡ lowest_from f (k + 1) (e - (k + 1))
   lowest_next h t = lowest_turn (e - k) refl h ∙ ap (λ b. cond b k (lowest_from f (k + 1) (e - (k + 1)))) t
-
-  pub lowest_none : e ≤ k → lowest_from f k (e - k) ≡ k
-  unfolding lowest_from
-  lowest_none h = let j : e - k ≡ 0 = omega arith in ap (lowest_from f k) j
 
 -- no thread carries the number d after the first
 abbrev unused : List Thread → ℕ → ℕ → Bool
@@ -97,20 +54,21 @@ module _ (threads : List Thread) (first : ℕ) where
   within : (over : ℕ) → length threads ≡ 64 → lowest_from (unused threads first) 0 65 ≡ lowest_from (unused threads first) over (65 - over) → over ≤ 64
   within over l e = omega (arith, few l, e, (lowest_is (unused threads first) over (65 - over)).low)
 
-  module _ {over candidate : ℕ} (h : Passing threads first over candidate) where
-    pub p_again : {next : ℕ} → carried threads candidate ≡ true → next ≡ (candidate + 1) % 65536 → Passing threads first (over + 1) next
+  -- by what the slots say of the candidate
+  module _ {over candidate : ℕ} {b : Bool} (h : Passing threads first over candidate) (c : b ≡ carried threads candidate) where
+    pub p_again : {next : ℕ} → b ≡ true → next ≡ (candidate + 1) % 65536 → Passing threads first (over + 1) next
     p_again t e =
-        let on = h.on ∙ lowest_next (unused threads first) over 65 (omega (arith, h.few)) (ap not (ap (carried threads) (sym h.is) ∙ t)) in
+        let on = h.on ∙ lowest_next (unused threads first) over 65 (omega (arith, h.few)) (ap not (ap (carried threads) (sym h.is) ∙ sym c ∙ t)) in
         record { long = h.long; few = within (over + 1) h.long on; is = omega (arith, h.is); on = on }
 
-    pub p_done : (last : ℕ) → first ≡ (last + 1) % 65536 → carried threads candidate ≡ false →
+    pub p_done : (last : ℕ) → first ≡ (last + 1) % 65536 → b ≡ false →
         record { pass = candidate; counter = record { last = candidate }; over = over } ≡ issued_by (record { last = last }) threads
     p_done last e t = λ i. record { pass = pass i; counter = record { last = pass i }; over = over_is i }
       where
         over_is : over ≡ over_in threads last
         over_is =
             sym (same_over last (omega arith) ∙ h.on
-            ∙ lowest_here (unused threads first) over 65 (omega (arith, h.few)) (ap not (ap (carried threads) (sym h.is) ∙ t)))
+            ∙ lowest_here (unused threads first) over 65 (omega (arith, h.few)) (ap not (ap (carried threads) (sym h.is) ∙ sym c ∙ t)))
 
         pass : candidate ≡ pass_in threads last
         pass = h.is ∙ sym (same last over (omega arith)) ∙ ap (λ d. (last + 1 + d) % 65536) over_is

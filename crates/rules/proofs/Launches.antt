@@ -1,19 +1,20 @@
 -- What a done launch makes of the slots. Assumes nothing.
-use Rattle.std.proofs.Common.{◌≡◌, ℕ, ◌+◌, ◌-◌, ◌<◌, ◌≤◌, Bool, true, false, cond, not, T, ◌≢◌, List, [], ◌∷◌, ◌++◌, length, drop, replicate, sym, refl, ap, ◌∙◌, subst, append_assoc, arith, length-drop, length-set, get_or-set_other, get_or-set_same, ltb-false, leb-false}
+use Rattle.std.proofs.Common.{◌≡◌, ℕ, ◌-◌, ◌<◌, ◌≤◌, Bool, true, false, cond, not, T, ◌≢◌, List, [], ◌∷◌, ◌++◌, length, drop, replicate, sym, refl, ap, ◌∙◌, subst, append_assoc, arith, length-drop, length-set, get_or-set_other, get_or-set_same, leb-false, Result, Ok, Err}
+use Rattle.std.specs.Prelude.{⊤}
+use Rattle.std.specs.List.{list_any}
 use native.Mathlib.Decide.{ℕ_discrete}
 use borrow.Author.Tests.{not-true}
 use Rattle.program.specs.declared.names.Controller.{Controller}
-use Rattle.program.specs.declared.envelope.Envelope.{Envelope}
-use Rattle.program.specs.declared.envelope.Envelope.TheVariants.{Right, Fewer, Length, Version}
+use Rattle.program.specs.declared.envelope.EnvelopeFault.{EnvelopeFault}
+use Rattle.program.specs.declared.envelope.EnvelopeFault.TheVariants.{Fewer, Length, Version}
 use Rattle.program.specs.Tree.{Program, encode}
 use Rattle.program.specs.Reading.{Found, whole, cut, bad, read_at}
 use Rattle.program.specs.Envelope.{envelope, Means}
 use Rattle.program.proofs.Laws.{bytes_are, moved}
 use Rattle.program.proofs.Envelopes.{envelope_means}
-use Rattle.rules.specs.declared.net.Thread.{Thread}
 use Rattle.rules.specs.declared.net.Net.{Net}
 use Rattle.rules.specs.Rows.{NoneHolds}
-use Rattle.rules.specs.Nets.{zero_thread, free, thread_at, has, some, free_slot, free_place, new_pass, place_bytes, located, program_of, in_net, allows}
+use Rattle.rules.specs.Nets.{zero_thread, free, thread_at, has, free_slot, free_place, new_pass, place_bytes, located, program_of, in_net, allows}
 use Rattle.rules.specs.Sound.{Placed, Sound, Sized, soundb}
 use Rattle.rules.specs.Calls.{is_fewer, is_length, is_version, tree, read_tree, code_of, is_cut, is_bad, entry_rows, at_launch, slot_row, place_row, launch_rows, written, begun, launch_done}
 use Rattle.rules.specs.Paper.{nobody, held, view_of, view}
@@ -25,11 +26,11 @@ use Rattle.rules.proofs.Places.{Reads, written_long, written_here, written_other
 use Rattle.rules.proofs.Sound.{sound_test}
 use Rattle.rules.proofs.Steps.{viewed, controller_not_zero}
 
-pub right_of : (e : Envelope) → is_fewer e ≡ false → is_length e ≡ false → is_version e ≡ false → e ≡ Right
-right_of Right f l v = refl
-right_of Fewer f l v = never (sym f)
-right_of Length f l v = never (sym l)
-right_of Version f l v = never (sym v)
+pub right_of : (e : Result ⊤ EnvelopeFault) → is_fewer e ≡ false → is_length e ≡ false → is_version e ≡ false → e ≡ Ok tt
+right_of (Ok right) f l v = refl
+right_of (Err Fewer) f l v = never (sym f)
+right_of (Err Length) f l v = never (sym l)
+right_of (Err Version) f l v = never (sym v)
 
 pub whole_of : (o : Found Program) → is_cut o ≡ false → is_bad o ≡ false → (m : ℕ) × (o ≡ whole (program_of o) m)
 whole_of (whole p m) c b = (m, refl)
@@ -41,7 +42,7 @@ module _ (net : Net) (c : Controller) (bytes : List ℕ) (h : NoneHolds (launch_
   pub launch_was_sound : Sound net
   launch_was_sound = (sound_test net).0 (passed (soundb net) h.0)
 
-  launch_envelope : Means 2 385 bytes Right
+  launch_envelope : Means 2 385 bytes (Ok tt)
   launch_envelope = subst (Means 2 385 bytes) (right_of (envelope 2 385 bytes) h.1.0 h.1.1.0 h.1.1.1.0) (envelope_means 2 385 bytes)
 
   launch_whole : (m : ℕ) × (read_tree bytes ≡ whole (code_of bytes) m)
@@ -85,7 +86,7 @@ module _ (net : Net) (sized : Sized net) (c : Controller) (bytes : List ℕ) (h 
   place_apart i r e =
       has_not (λ t. t.place) net (free_place net) i
       (none_has (has (λ t. t.place) (free_place net)) zero_thread refl net.threads
-      (not-true _ ((lowest_is (λ p. not (some (has (λ t. t.place) p) net.threads)) 0 8).passes (place_low net c bytes h))) i) r e
+      (not-true _ ((lowest_is (λ p. not (list_any (has (λ t. t.place) p) net.threads)) 0 8).passes (place_low net c bytes h))) i) r e
 
   same_located : (i : ℕ) → Runs net i → located after (thread_at net i) ≡ located net (thread_at net i)
   unfolding after launch_done

@@ -1,29 +1,30 @@
 -- Each row of the table, beside its plain meaning. Assumes nothing.
-use Rattle.std.proofs.Common.{◌≡◌, ℕ, ◌+◌, ◌*◌, ◌<◌, ◌≤◌, Bool, true, false, not, ◌&&◌, ◌||◌, T, eqb, ltb, leb, ◌⊎◌, ◌↔◌, List, [], ◌++◌, length, get_or, sym, refl, ap, ◌∙◌, inl, inr, append-nil, arith, le→leb, eqb→eq, ltb→lt, lt→ltb, leb→le, drop_of_length-le, ltb-false, le-ltb, eqb-true}
+use Rattle.std.proofs.Common.{◌≡◌, ℕ, ◌+◌, ◌*◌, ◌<◌, ◌≤◌, Bool, true, false, not, ◌&&◌, ◌||◌, T, eqb, ltb, leb, ◌⊎◌, ◌↔◌, List, [], ◌++◌, length, get_or, sym, refl, ap, ◌∙◌, inl, inr, append-nil, arith, le→leb, eqb→eq, ltb→lt, lt→ltb, leb→le, drop_of_length-le, ltb-false, le-ltb, eqb-true, Result, Ok, Err}
+use Rattle.std.specs.Prelude.{⊤}
+use Rattle.std.specs.List.{list_all, list_any}
 use mathlib.Core.Logic.Iff
 use native.Mathlib.Decide.{dec_lt}
 use borrow.Author.Tests.{not-true, not-false}
-use lib.Dec.{eqb_refl}
 use Rattle.program.specs.declared.names.Controller.{Controller}
-use Rattle.program.specs.declared.envelope.Envelope.{Envelope}
-use Rattle.program.specs.declared.envelope.Envelope.TheVariants.{Right, Fewer, Length, Version}
+use Rattle.program.specs.declared.envelope.EnvelopeFault.{EnvelopeFault}
+use Rattle.program.specs.declared.envelope.EnvelopeFault.TheVariants.{Fewer, Length, Version}
 use Rattle.program.specs.Tree.{Program, encode, Good}
 use Rattle.program.specs.Reading.{Found, whole, cut, bad, read_at}
-use Rattle.program.specs.Envelope.{stated, envelope, Means}
-use Rattle.program.proofs.Laws.{bytes_are, grows, round_trip}
+use Rattle.program.specs.Envelope.{stated, envelope}
+use Rattle.program.proofs.Laws.{bytes_are, round_trip}
 use Rattle.program.proofs.Envelopes.{envelope_exactly}
 use Rattle.policy.specs.Tests.{fits_allb, honestb, slip_fitsb}
 use Rattle.policy.proofs.Tests.{honest_test, fits_all_test, slip_test_lem}
 use Rattle.rules.specs.declared.net.Net.{Net}
 use Rattle.rules.specs.Rows.{NoneHolds}
-use Rattle.rules.specs.Nets.{zero_thread, free, thread_at, has, some, free_slot, free_place, in_net}
-use Rattle.rules.specs.Sound.{every, soundb}
+use Rattle.rules.specs.Nets.{zero_thread, free, thread_at, has, free_slot, free_place, in_net}
+use Rattle.rules.specs.Sound.{soundb}
 use Rattle.rules.specs.Calls.{is_fewer, is_length, is_version, tree, read_tree, code_of, is_cut, is_bad, leaves_over, tree_rows, controllers_of, set_up_net, coherentb}
 use Rattle.rules.specs.Demands.{Runs, Meanings}
 use Rattle.rules.proofs.Rows.{never, T_not}
 use Rattle.rules.proofs.Search.{Lowest, lowest_is, none_has, some_has}
 use Rattle.rules.proofs.Pass.{has_not}
-use Rattle.rules.proofs.Sound.{every_get, sound_test}
+use Rattle.rules.proofs.Sound.{every_get, eqb_test, sound_test}
 use Rattle.rules.proofs.Launches.{whole_of}
 use Rattle.rules.proofs.SetUps.{in_net_lem, coherent_test}
 
@@ -39,36 +40,33 @@ or_test false b e f = (λ t. inr (f.0 t), λ x. elim x [ inl y ↦ absurd (e.1 y
 less_test : (m n : ℕ) → T (ltb m n) ↔ (m < n)
 less_test m n = (ltb→lt m n, lt→ltb m n)
 
-equal_test : (m n : ℕ) → T (eqb m n) ↔ (m ≡ n)
-equal_test m n = (eqb→eq m n, λ e. rw e (eqb_refl n))
-
 -- 1, 2, 3
-fewer_test : (e : Envelope) → T (is_fewer e) ↔ (e ≡ Fewer)
+fewer_test : (e : Result ⊤ EnvelopeFault) → T (is_fewer e) ↔ (e ≡ Err Fewer)
 fewer_test e = (to e, λ i. rw i tt)
   where
-    to : (e : Envelope) → T (is_fewer e) → e ≡ Fewer
-    to Right t = absurd t
-    to Fewer t = refl
-    to Length t = absurd t
-    to Version t = absurd t
+    to : (e : Result ⊤ EnvelopeFault) → T (is_fewer e) → e ≡ Err Fewer
+    to (Ok right) t = absurd t
+    to (Err Fewer) t = refl
+    to (Err Length) t = absurd t
+    to (Err Version) t = absurd t
 
-length_test : (e : Envelope) → T (is_length e) ↔ (e ≡ Length)
+length_test : (e : Result ⊤ EnvelopeFault) → T (is_length e) ↔ (e ≡ Err Length)
 length_test e = (to e, λ i. rw i tt)
   where
-    to : (e : Envelope) → T (is_length e) → e ≡ Length
-    to Right t = absurd t
-    to Fewer t = absurd t
-    to Length t = refl
-    to Version t = absurd t
+    to : (e : Result ⊤ EnvelopeFault) → T (is_length e) → e ≡ Err Length
+    to (Ok right) t = absurd t
+    to (Err Fewer) t = absurd t
+    to (Err Length) t = refl
+    to (Err Version) t = absurd t
 
-version_test : (e : Envelope) → T (is_version e) ↔ (e ≡ Version)
+version_test : (e : Result ⊤ EnvelopeFault) → T (is_version e) ↔ (e ≡ Err Version)
 version_test e = (to e, λ i. rw i tt)
   where
-    to : (e : Envelope) → T (is_version e) → e ≡ Version
-    to Right t = absurd t
-    to Fewer t = absurd t
-    to Length t = absurd t
-    to Version t = refl
+    to : (e : Result ⊤ EnvelopeFault) → T (is_version e) → e ≡ Err Version
+    to (Ok right) t = absurd t
+    to (Err Fewer) t = absurd t
+    to (Err Length) t = absurd t
+    to (Err Version) t = refl
 
 -- 4, 5, 6
 cut_test : (o : Found Program) → T (is_cut o) ↔ (o ≡ cut)
@@ -128,7 +126,7 @@ module _ (net : Net) where
 
   -- 10: every place has a thread
   used : ℕ → Bool
-  used place = some (has (λ t. t.place) place) net.threads
+  used place = list_any (has (λ t. t.place) place) net.threads
 
   lowest_place : Lowest (λ place. not (used place)) 0 8 (free_place net)
   unfolding used
@@ -153,18 +151,18 @@ module _ (net : Net) where
   )
 
 same_controller : (k l : Controller) → T (eqb l.0 k.0) ↔ (l ≡ k)
-same_controller k l = (λ t. let e = eqb→eq l.0 k.0 t in λ i. record { 0 = e i }, λ e. (equal_test l.0 k.0).1 (ap (λ c. c.0) e))
+same_controller k l = (λ t. let e = eqb→eq l.0 k.0 t in λ i. record { 0 = e i }, λ e. (eqb_test l.0 k.0).1 (ap (λ c. c.0) e))
 
-trust_test : (l : List ℕ) → T (every (λ b. leb b 2) l) ↔ ((i : ℕ) → get_or l i 0 ≤ 2)
+trust_test : (l : List ℕ) → T (list_all (λ b. leb b 2) l) ↔ ((i : ℕ) → get_or l i 0 ≤ 2)
 trust_test l =
     let e = every_get (λ b. leb b 2) 0 tt l in
     (λ t i. leb→le (get_or l i 0) 2 (e.0 t i), λ h. e.1 (λ i. le→leb (get_or l i 0) 2 (h i)))
 
 pub meanings : Meanings
 meanings = record {
-  row_1 = λ most bytes. Iff.trans (fewer_test (envelope 2 most bytes)) (envelope_exactly 2 most bytes Fewer);
-  row_2 = λ most bytes. Iff.trans (length_test (envelope 2 most bytes)) (envelope_exactly 2 most bytes Length);
-  row_3 = λ most bytes. Iff.trans (version_test (envelope 2 most bytes)) (envelope_exactly 2 most bytes Version);
+  row_1 = λ most bytes. Iff.trans (fewer_test (envelope 2 most bytes)) (envelope_exactly 2 most bytes (Err Fewer));
+  row_2 = λ most bytes. Iff.trans (length_test (envelope 2 most bytes)) (envelope_exactly 2 most bytes (Err Length));
+  row_3 = λ most bytes. Iff.trans (version_test (envelope 2 most bytes)) (envelope_exactly 2 most bytes (Err Version));
   row_4 = λ bytes. cut_test (read_tree bytes);
   row_5 = λ bytes. bad_test (read_tree bytes);
   row_6 = λ bytes. over_test (read_tree bytes) (length (tree bytes));
@@ -174,12 +172,12 @@ meanings = record {
   row_12 = λ allowed slip. not_test (slip_fitsb allowed slip) (slip_test_lem allowed slip);
   row_9 = no_slot;
   row_10 = no_place;
-  row_11 = λ net slot. or_test (ltb 63 slot) (free (thread_at net slot)) (less_test 63 slot) (equal_test (thread_at net slot).controller.0 0);
+  row_11 = λ net slot. or_test (ltb 63 slot) (free (thread_at net slot)) (less_test 63 slot) (eqb_test (thread_at net slot).controller.0 0);
   row_13 = same_controller;
   row_16 = λ net c. not_test (in_net net c) (in_net_lem net c);
   row_14_n = λ bytes. or_test (ltb (controllers_of bytes) 1) (ltb 16 (controllers_of bytes)) (less_test (controllers_of bytes) 1) (less_test 16 (controllers_of bytes));
-  row_14_length = λ bytes. not_test (eqb (stated bytes) (2 + controllers_of bytes * controllers_of bytes + 32 * controllers_of bytes)) (equal_test _ _);
-  row_14_trust = λ bytes. not_test (every (λ b. leb b 2) (set_up_net bytes).trust) (trust_test (set_up_net bytes).trust);
+  row_14_length = λ bytes. not_test (eqb (stated bytes) (2 + controllers_of bytes * controllers_of bytes + 32 * controllers_of bytes)) (eqb_test _ _);
+  row_14_trust = λ bytes. not_test (list_all (λ b. leb b 2) (set_up_net bytes).trust) (trust_test (set_up_net bytes).trust);
   row_15 = λ net. not_test (coherentb net) (coherent_test net);
   row_99 = λ net. not_test (soundb net) (sound_test net);
 }

@@ -1,6 +1,6 @@
 -- The pigeonhole: where each member of a list has at most one number, a list that has m different numbers has at least m members. Assumes nothing.
 use Rattle.std.proofs.Common.{◌≡◌, ℕ, zero, suc, ◌<◌, ◌≤◌, Bool, true, false, cond, ◌||◌, List, [], ◌∷◌, length, sym, refl, ap, zero-le, arith}
-use Rattle.rules.specs.Nets.{some}
+use Rattle.std.specs.List.{list_any}
 use Rattle.rules.proofs.Rows.{never}
 
 module _ {X : Type 0} (has : ℕ → X → Bool) where
@@ -14,26 +14,25 @@ module _ {X : Type 0} (has : ℕ → X → Bool) where
   shorter_case true c t ts rest ih h = refl
   shorter_case false c t ts rest ih h = ap suc (ih h)
 
-  shorter : (ts : List X) (p : ℕ) → some (has p) ts ≡ true → length ts ≡ suc (length (without ts p))
-  unfolding some without
+  shorter : (ts : List X) (p : ℕ) → list_any (has p) ts ≡ true → length ts ≡ suc (length (without ts p))
+  unfolding without
   shorter [] p h = never h
-  shorter (t ∷ ts) p h = shorter_case (has p t) (some (has p) ts) t ts (without ts p) (shorter ts p) h
+  shorter (t ∷ ts) p h = shorter_case (has p t) (list_any (has p) ts) t ts (without ts p) (shorter ts p) h
 
-  other_case : (b d : Bool) (t : X) (ts rest : List X) (q : ℕ) → has q t ≡ d → (b ≡ true → d ≡ true → ⊥) → (some (has q) ts ≡ true → some (has q) rest ≡ true) →
-      (d || some (has q) ts) ≡ true → some (has q) (cond b ts (t ∷ rest)) ≡ true
-  unfolding some
+  other_case : (b d : Bool) (t : X) (ts rest : List X) (q : ℕ) → has q t ≡ d → (b ≡ true → d ≡ true → ⊥) → (list_any (has q) ts ≡ true → list_any (has q) rest ≡ true) →
+      (d || list_any (has q) ts) ≡ true → list_any (has q) (cond b ts (t ∷ rest)) ≡ true
   other_case true true t ts rest q e un ih h = absurd (un refl refl)
   other_case true false t ts rest q e un ih h = h
   other_case false true t ts rest q e un ih h = rw e
   other_case false false t ts rest q e un ih h = rw e (ih h)
 
   module _ (one : (t : X) (p q : ℕ) → has p t ≡ true → has q t ≡ true → p ≡ q) where
-    other : (ts : List X) (p q : ℕ) → (p ≡ q → ⊥) → some (has q) ts ≡ true → some (has q) (without ts p) ≡ true
-    unfolding some without
+    other : (ts : List X) (p q : ℕ) → (p ≡ q → ⊥) → list_any (has q) ts ≡ true → list_any (has q) (without ts p) ≡ true
+    unfolding without
     other [] p q ne h = never h
     other (t ∷ ts) p q ne h = other_case (has p t) (has q t) t ts (without ts p) q refl (λ x y. ne (one t p q x y)) (other ts p q ne) h
 
-    pub pigeonhole : (m : ℕ) (f : ℕ → ℕ) (ts : List X) → ((j k : ℕ) → j < k → k < m → f j ≡ f k → ⊥) → ((k : ℕ) → k < m → some (has (f k)) ts ≡ true) →
+    pub pigeonhole : (m : ℕ) (f : ℕ → ℕ) (ts : List X) → ((j k : ℕ) → j < k → k < m → f j ≡ f k → ⊥) → ((k : ℕ) → k < m → list_any (has (f k)) ts ≡ true) →
         m ≤ length ts
     pigeonhole zero f ts inj all = zero-le
     pigeonhole (suc m) f ts inj all =

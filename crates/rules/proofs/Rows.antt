@@ -1,9 +1,8 @@
 -- What a table of refusals answers. Assumes nothing.
-use Rattle.std.proofs.Common.{◌≡◌, ℕ, Bool, true, false, cond, not, T, ◌↔◌, List, [], ◌∷◌, ◌++◌, sym, refl, ap, ◌∙◌, arith}
+use Rattle.std.proofs.Common.{◌≡◌, ℕ, Bool, true, false, cond, not, T, ◌↔◌, List, [], ◌∷◌, ◌++◌, sym, refl, ap, ◌∙◌, arith, Ok, Err}
 use Rattle.rules.specs.declared.net.Net.{Net}
 use Rattle.rules.specs.declared.reply.Fields.{Fields}
 use Rattle.rules.specs.declared.reply.Refusal.{Refusal}
-use Rattle.rules.specs.declared.reply.Reply.TheVariants.{Done, Refused}
 use Rattle.rules.specs.declared.reply.Outcome.{Outcome}
 use Rattle.rules.specs.Rows.{Row, ◌gives◌, refused, answer, First, here, later, NoneHolds}
 
@@ -40,7 +39,7 @@ pub passes : (b : Bool) → T b → not b ≡ false
 passes true t = refl
 passes false t = absurd t
 
-pub done_refused : {A : Type 0} {f : Fields} {r : Refusal} → Done f ≡ Refused r → A
+pub done_refused : {A : Type 0} {f : Fields} {r : Refusal} → Ok f ≡ Err r → A
 done_refused e = let z : ◌≡◌ {A = ℕ} 0 1 = cc in absurd (omega arith)
 
 -- what holds of each refusal, and of what is done where no row holds, holds of the answer
@@ -76,25 +75,25 @@ pub refuses : (net : Net) (done : Outcome) {rows : List Row} {r : Refusal} → F
 refuses net done (here t) = rw t
 refuses net done (later t h) = rw t (refuses net done h)
 
-module _ (net : Net) (done : Outcome) (f : Fields) (is : done.reply ≡ Done f) where
-  first_to : (rows : List Row) (r : Refusal) → (answer rows net done).reply ≡ Refused r → First rows r
+module _ (net : Net) (done : Outcome) (f : Fields) (is : done.reply ≡ Ok f) where
+  first_to : (rows : List Row) (r : Refusal) → (answer rows net done).reply ≡ Err r → First rows r
   first_to [] r e = done_refused (sym is ∙ e)
   first_to (test gives q ∷ rows) r e = go test refl (first_to rows r) e
     where
-      go : (b : Bool) → test ≡ b → ((answer rows net done).reply ≡ Refused r → First rows r) → (cond b (refused q net) (answer rows net done)).reply ≡ Refused r →
+      go : (b : Bool) → test ≡ b → ((answer rows net done).reply ≡ Err r → First rows r) → (cond b (refused q net) (answer rows net done)).reply ≡ Err r →
           First (test gives q ∷ rows) r
       go true t more e = let i : q ≡ r = cc in rw (← i) (here t)
       go false t more e = later t (more e)
 
   -- the reply is r exactly if the first row that holds gives r
-  pub refused_exactly : (rows : List Row) (r : Refusal) → ((answer rows net done).reply ≡ Refused r) ↔ First rows r
+  pub refused_exactly : (rows : List Row) (r : Refusal) → ((answer rows net done).reply ≡ Err r) ↔ First rows r
   refused_exactly rows r = (first_to rows r, λ h. ap (λ o. o.reply) (refuses net done h))
 
-  pub done_to : (rows : List Row) (g : Fields) → (answer rows net done).reply ≡ Done g → NoneHolds rows
+  pub done_to : (rows : List Row) (g : Fields) → (answer rows net done).reply ≡ Ok g → NoneHolds rows
   done_to [] g e = tt
   done_to (test gives r ∷ rows) g e = go test refl (done_to rows g) e
     where
-      go : (b : Bool) → test ≡ b → ((answer rows net done).reply ≡ Done g → NoneHolds rows) → (cond b (refused r net) (answer rows net done)).reply ≡ Done g →
+      go : (b : Bool) → test ≡ b → ((answer rows net done).reply ≡ Ok g → NoneHolds rows) → (cond b (refused r net) (answer rows net done)).reply ≡ Ok g →
           (test ≡ false) × NoneHolds rows
       go true t more e = done_refused (sym e)
       go false t more e = (t, more e)
@@ -104,5 +103,5 @@ module _ (net : Net) (done : Outcome) (f : Fields) (is : done.reply ≡ Done f) 
   done_exactly rows = (λ e. done_to rows f (ap (λ o. o.reply) e ∙ is), none_done net done rows)
 
   -- a refusal leaves the net as found
-  pub leaves : (rows : List Row) (r : Refusal) → (answer rows net done).reply ≡ Refused r → (answer rows net done).net ≡ net
-  leaves rows r = answered (λ o. o.reply ≡ Refused r → o.net ≡ net) rows net done (λ q e. refl) (λ h e. done_refused (sym is ∙ e))
+  pub leaves : (rows : List Row) (r : Refusal) → (answer rows net done).reply ≡ Err r → (answer rows net done).net ≡ net
+  leaves rows r = answered (λ o. o.reply ≡ Err r → o.net ≡ net) rows net done (λ q e. refl) (λ h e. done_refused (sym is ∙ e))

@@ -1,6 +1,7 @@
 -- The lowest number that passes a test, and what some member of a list has. Assumes nothing.
-use Rattle.std.proofs.Common.{◌≡◌, ℕ, zero, suc, ◌+◌, ◌<◌, ◌≤◌, Bool, true, false, cond, ◌||◌, List, [], ◌∷◌, get_or, sym, refl, ◌∙◌, ⊎_elim, eq-or-lt_of_le, arith}
-use Rattle.rules.specs.Nets.{lowest_from, some}
+use Rattle.std.proofs.Common.{◌≡◌, ℕ, zero, suc, ◌+◌, ◌<◌, ◌≤◌, Bool, true, false, cond, ◌||◌, List, [], ◌∷◌, get_or, sym, refl, ⊎_elim, eq-or-lt_of_le, arith}
+use Rattle.std.specs.List.{list_any}
+use Rattle.rules.specs.Nets.{lowest_from}
 use Rattle.rules.proofs.Rows.{never}
 
 -- r is the lowest of n numbers from k on that passes, or stands behind them
@@ -29,18 +30,16 @@ or_false true b e = never (sym e)
 or_false false b e = (refl, e)
 
 -- what no member of a list has, none of its places shows
-pub none_has : {A : Type 0} (f : A → Bool) (d : A) → f d ≡ false → (l : List A) → some f l ≡ false → (i : ℕ) → f (get_or l i d) ≡ false
-unfolding some
+pub none_has : {A : Type 0} (f : A → Bool) (d : A) → f d ≡ false → (l : List A) → list_any f l ≡ false → (i : ℕ) → f (get_or l i d) ≡ false
 none_has f d z [] e i = z
-none_has f d z (a ∷ l) e zero = (or_false (f a) (some f l) e).0
-none_has f d z (a ∷ l) e (suc i) = none_has f d z l (or_false (f a) (some f l) e).1 i
+none_has f d z (a ∷ l) e zero = (or_false (f a) (list_any f l) e).0
+none_has f d z (a ∷ l) e (suc i) = none_has f d z l (or_false (f a) (list_any f l) e).1 i
 
 -- and what some member has, one of its places shows
-pub some_has : {A : Type 0} (f : A → Bool) (d : A) (l : List A) → some f l ≡ true → (i : ℕ) × (f (get_or l i d) ≡ true)
-unfolding some
+pub some_has : {A : Type 0} (f : A → Bool) (d : A) (l : List A) → list_any f l ≡ true → (i : ℕ) × (f (get_or l i d) ≡ true)
 some_has f d [] e = never e
 some_has f d (a ∷ l) e = go (f a) refl e (some_has f d l)
   where
-    go : (b : Bool) → f a ≡ b → (b || some f l) ≡ true → (some f l ≡ true → (i : ℕ) × (f (get_or l i d) ≡ true)) → (i : ℕ) × (f (get_or (a ∷ l) i d) ≡ true)
+    go : (b : Bool) → f a ≡ b → (b || list_any f l) ≡ true → (list_any f l ≡ true → (i : ℕ) × (f (get_or l i d) ≡ true)) → (i : ℕ) × (f (get_or (a ∷ l) i d) ≡ true)
     go true t h more = (0, t)
     go false t h more = let (i, e) = more h in (suc i, e)

@@ -1,5 +1,7 @@
 -- The test of coherence is exact, and a done set-up begins the invariant. Assumes nothing.
-use Rattle.std.proofs.Common.{◌≡◌, ℕ, zero, suc, ◌+◌, ◌-◌, ◌*◌, ◌/◌, ◌%◌, ◌<◌, ◌≤◌, Bool, true, false, not, ◌&&◌, ◌||◌, T, eqb, ltb, leb, ◌↔◌, List, get_or, drop, replicate, sym, refl, ap, ◌∙◌, subst, ⊎_elim, eq-or-lt_of_le, arith, le→leb, eqb→eq, ltb→lt, lt→ltb, leb→le, get_or-drop, get_or-take, ltb-false, lt-ltb}
+use Rattle.std.proofs.Common.{◌≡◌, ℕ, zero, suc, ◌+◌, ◌-◌, ◌*◌, ◌/◌, ◌%◌, ◌<◌, ◌≤◌, Bool, true, false, not, ◌||◌, T, eqb, ltb, leb, ◌↔◌, List, get_or, drop, replicate, sym, refl, ◌∙◌, subst, ⊎_elim, eq-or-lt_of_le, arith, le→leb, eqb→eq, ltb→lt, lt→ltb, leb→le, get_or-drop, get_or-take, ltb-false, lt-ltb}
+use Rattle.std.specs.List.{list_all, range_with_len}
+use Rattle.std.proofs.lemmas.List.FromFn.{get_or-map-range_with_len}
 use mathlib.Core.Logic.Iff
 use lib.Dec.{eqb_refl}
 use lib.ListN.{length-replicate}
@@ -9,41 +11,40 @@ use Rattle.policy.proofs.Tests.{both_test}
 use Rattle.rules.specs.declared.net.Net.{Net}
 use Rattle.rules.specs.Rows.{NoneHolds}
 use Rattle.rules.specs.Nets.{zero_thread, free, thread_at, in_net, trust, policy_of}
-use Rattle.rules.specs.Sound.{every, Sized, Sound}
-use Rattle.rules.specs.Calls.{laid, trust_byte, policy_byte, set_up_net, controllers_of, agreesb, controllers, coherentb, set_up_rows}
+use Rattle.rules.specs.Sound.{Sized, Sound}
+use Rattle.rules.specs.Calls.{trust_byte, policy_byte, set_up_net, controllers_of, agreesb, controllers, coherentb, set_up_rows}
 use Rattle.rules.specs.History.{blank}
 use Rattle.rules.specs.Demands.{Layout}
 use Rattle.rules.specs.Paper.{nobody, view, ◌<:◌, unknown, equal, Coherent}
-use Rattle.rules.proofs.Rows.{never, passed}
+use Rattle.rules.proofs.Rows.{passed}
 use Rattle.rules.proofs.Search.{or_false}
 use Rattle.rules.proofs.Sound.{every_get}
 use Rattle.rules.proofs.Books.{nobody_held}
 use Rattle.rules.proofs.Invariant.{Inv}
 
 -- a test of n numbers from k on is a test of each
-every_laid : (f : ℕ → Bool) (k n : ℕ) → T (every f (laid (λ i. i) k n)) ↔ ((i : ℕ) → k ≤ i → i < k + n → T (f i))
-unfolding laid
-every_laid f k n = (to k n, from k n)
+all_in_range : (f : ℕ → Bool) (k n : ℕ) → T (list_all f (range_with_len k n)) ↔ ((i : ℕ) → k ≤ i → i < k + n → T (f i))
+all_in_range f k n = (to k n, from k n)
   where
-    to : (k n : ℕ) → T (every f (laid (λ i. i) k n)) → (i : ℕ) → k ≤ i → i < k + n → T (f i)
+    to : (k n : ℕ) → T (list_all f (range_with_len k n)) → (i : ℕ) → k ≤ i → i < k + n → T (f i)
     to k zero h i l u = absurd (omega arith)
     to k (suc n) h i l u =
-        let (a, c) = (both_test (f k) (every f (laid (λ i. i) (k + 1) n)) Iff.rfl Iff.rfl).0 h in
+        let (a, c) = (both_test (f k) (list_all f (range_with_len (k + 1) n)) Iff.rfl Iff.rfl).0 h in
         ⊎_elim (λ (e : k ≡ i). subst (λ j. T (f j)) e a) (λ (e : k < i). to (k + 1) n c i (omega arith) (omega arith)) (eq-or-lt_of_le l)
 
-    from : (k n : ℕ) → ((i : ℕ) → k ≤ i → i < k + n → T (f i)) → T (every f (laid (λ i. i) k n))
+    from : (k n : ℕ) → ((i : ℕ) → k ≤ i → i < k + n → T (f i)) → T (list_all f (range_with_len k n))
     from k zero h = tt
     from k (suc n) h =
-        (both_test (f k) (every f (laid (λ i. i) (k + 1) n)) Iff.rfl Iff.rfl).1 (h k (omega arith) (omega arith), from (k + 1) n (λ i l u. h i (omega arith) (omega arith)))
+        (both_test (f k) (list_all f (range_with_len (k + 1) n)) Iff.rfl Iff.rfl).1 (h k (omega arith) (omega arith), from (k + 1) n (λ i l u. h i (omega arith) (omega arith)))
 
 -- the controllers of a net
 pub in_net_lem : (net : Net) (k : Controller) → T (in_net net k) ↔ ((16 ≤ k.0) × (k.0 < 16 + net.n))
 in_net_lem net k = both_test (leb 16 k.0) (ltb k.0 (16 + net.n)) (leb→le 16 k.0, le→leb 16 k.0) (ltb→lt k.0 (16 + net.n), lt→ltb k.0 (16 + net.n))
 
 -- a test of every controller of the net is a test of each
-every_controller : (net : Net) (f : Controller → Bool) → T (every (λ k. f (controller k)) (controllers net)) ↔ ((k : Controller) → T (in_net net k) → T (f k))
+every_controller : (net : Net) (f : Controller → Bool) → T (list_all (λ k. f (controller k)) (controllers net)) ↔ ((k : Controller) → T (in_net net k) → T (f k))
 every_controller net f =
-    let e = every_laid (λ k. f (controller k)) 16 net.n in
+    let e = all_in_range (λ k. f (controller k)) 16 net.n in
     (λ h k i. let n = (in_net_lem net k).0 i in e.0 h k.0 n.0 n.1, λ h. e.1 (λ k l u. h (controller k) ((in_net_lem net (controller k)).1 (l, u))))
 
 -- one trust below another, where the first is asked
@@ -78,8 +79,8 @@ coherent_test net = (
   λ c. outer.1 (λ k ik. (every_controller net (agreesb net k)).1 (λ l il. (below_test (trust net k k) (trust net k l) (trust net l l)).1 (c.agrees k l ik il))),
 )
   where
-    outer : T (coherentb net) ↔ ((k : Controller) → T (in_net net k) → T (every (λ l. agreesb net k (controller l)) (controllers net)))
-    outer = every_controller net (λ k. every (λ l. agreesb net k (controller l)) (controllers net))
+    outer : T (coherentb net) ↔ ((k : Controller) → T (in_net net k) → T (list_all (λ l. agreesb net k (controller l)) (controllers net)))
+    outer = every_controller net (λ k. list_all (λ l. agreesb net k (controller l)) (controllers net))
 
 get_or_same : {A : Type 0} (n i : ℕ) (a : A) → get_or (replicate n a) i a ≡ a
 get_or_same zero i a = refl
@@ -104,7 +105,7 @@ module _ (bytes : List ℕ) (h : NoneHolds (set_up_rows bytes)) where
 
   sound : Sound (set_up_net bytes)
   sound =
-      let trusts = (every_get (λ b. leb b 2) 0 tt (set_up_net bytes).trust).0 (passed (every (λ b. leb b 2) (set_up_net bytes).trust) h.1.1.1.1.1.0) in
+      let trusts = (every_get (λ b. leb b 2) 0 tt (set_up_net bytes).trust).0 (passed (list_all (λ b. leb b 2) (set_up_net bytes).trust) h.1.1.1.1.1.0) in
       record {
         few = few;
         trusts = λ i. leb→le (get_or (set_up_net bytes).trust i 0) 2 (trusts i);
@@ -127,12 +128,6 @@ module _ (bytes : List ℕ) (h : NoneHolds (set_up_rows bytes)) where
   }
 
 -- where the bytes of a set-up stand in its net
-laid_at : (f : ℕ → ℕ) (k n i : ℕ) → i < n → get_or (laid f k n) i 0 ≡ f (k + i)
-unfolding laid
-laid_at f k zero i h = absurd (omega arith)
-laid_at f k (suc n) zero h = ap f (omega arith)
-laid_at f k (suc n) (suc i) h = laid_at f (k + 1) n i (omega arith) ∙ ap f (omega arith)
-
 module _ (bytes : List ℕ) (few : controllers_of bytes ≤ 16) where
   n : ℕ
   n = controllers_of bytes
@@ -161,9 +156,9 @@ module _ (bytes : List ℕ) (few : controllers_of bytes ≤ 16) where
     trusts = λ k l ik il.
         let a = index k ik in
         let b = index l il in
-        laid_at (trust_byte bytes n) 0 256 (16 * (k.0 - 16) + (l.0 - 16)) (omega arith) ∙ ap (trust_byte bytes n) (omega arith) ∙ trust_at (k.0 - 16) (l.0 - 16) a b;
+        get_or-map-range_with_len (trust_byte bytes n) 0 256 (16 * (k.0 - 16) + (l.0 - 16)) (16 * (k.0 - 16) + (l.0 - 16)) 0 (omega arith) (omega arith) ∙ trust_at (k.0 - 16) (l.0 - 16) a b;
     policies = λ k ik α h.
         let a = index k ik in
         get_or-take 32 (drop (32 * (k.0 - 16)) (set_up_net bytes).policies) α 0 h ∙ get_or-drop (32 * (k.0 - 16)) (set_up_net bytes).policies α 0
-        ∙ laid_at (policy_byte bytes n) 0 512 (32 * (k.0 - 16) + α) (omega arith) ∙ ap (policy_byte bytes n) (omega arith) ∙ policy_at (k.0 - 16) α a h;
+        ∙ get_or-map-range_with_len (policy_byte bytes n) 0 512 (32 * (k.0 - 16) + α) (32 * (k.0 - 16) + α) 0 (omega arith) (omega arith) ∙ policy_at (k.0 - 16) α a h;
   }

@@ -1,5 +1,6 @@
 -- The test of soundness says what the record says. Assumes nothing.
 use Rattle.std.proofs.Common.{◌≡◌, ℕ, zero, suc, Bool, true, false, cond, not, T, eqb, ltb, leb, ◌↔◌, List, [], ◌∷◌, get_or, set, refl, le→leb, eqb→eq, ltb→lt, lt→ltb, leb→le}
+use Rattle.std.specs.List.{list_all}
 use mathlib.Core.Logic.Iff
 use lib.Dec.{eqb_refl}
 use Rattle.program.specs.Tree.{Program}
@@ -8,33 +9,33 @@ use Rattle.policy.proofs.Tests.{both_test}
 use Rattle.rules.specs.declared.net.Thread.{Thread}
 use Rattle.rules.specs.declared.net.Net.{Net}
 use Rattle.rules.specs.Nets.{zero_thread, free, thread_at, located, in_net}
-use Rattle.rules.specs.Sound.{every, Placed, Sound, is_whole, is_zero, placedb, slotb, soundb}
+use Rattle.rules.specs.Sound.{Placed, Sound, is_whole, is_zero, placedb, slotb, soundb}
 
 -- a test of every member is a test at every index, where it passes at what stands beyond the end
-pub every_get : {A : Type 0} (f : A → Bool) (d : A) → T (f d) → (l : List A) → T (every f l) ↔ ((i : ℕ) → T (f (get_or l i d)))
+pub every_get : {A : Type 0} (f : A → Bool) (d : A) → T (f d) → (l : List A) → T (list_all f l) ↔ ((i : ℕ) → T (f (get_or l i d)))
 every_get f d z l = (to l, from l)
   where
-    to : (l : List _) → T (every f l) → (i : ℕ) → T (f (get_or l i d))
+    to : (l : List _) → T (list_all f l) → (i : ℕ) → T (f (get_or l i d))
     to [] h i = z
-    to (a ∷ l) h zero = ((both_test (f a) (every f l) Iff.rfl Iff.rfl).0 h).0
-    to (a ∷ l) h (suc i) = to l ((both_test (f a) (every f l) Iff.rfl Iff.rfl).0 h).1 i
+    to (a ∷ l) h zero = ((both_test (f a) (list_all f l) Iff.rfl Iff.rfl).0 h).0
+    to (a ∷ l) h (suc i) = to l ((both_test (f a) (list_all f l) Iff.rfl Iff.rfl).0 h).1 i
 
-    from : (l : List _) → ((i : ℕ) → T (f (get_or l i d))) → T (every f l)
+    from : (l : List _) → ((i : ℕ) → T (f (get_or l i d))) → T (list_all f l)
     from [] h = tt
-    from (a ∷ l) h = (both_test (f a) (every f l) Iff.rfl Iff.rfl).1 (h 0, from l (λ i. h (suc i)))
+    from (a ∷ l) h = (both_test (f a) (list_all f l) Iff.rfl Iff.rfl).1 (h 0, from l (λ i. h (suc i)))
 
-pub every_set : {A : Type 0} (f : A → Bool) (l : List A) (i : ℕ) (a : A) → T (every f l) → T (f a) → T (every f (set l i a))
+pub every_set : {A : Type 0} (f : A → Bool) (l : List A) (i : ℕ) (a : A) → T (list_all f l) → T (f a) → T (list_all f (set l i a))
 every_set f [] i a h t = h
-every_set f (x ∷ l) zero a h t = (both_test (f a) (every f l) Iff.rfl Iff.rfl).1 (t, ((both_test (f x) (every f l) Iff.rfl Iff.rfl).0 h).1)
+every_set f (x ∷ l) zero a h t = (both_test (f a) (list_all f l) Iff.rfl Iff.rfl).1 (t, ((both_test (f x) (list_all f l) Iff.rfl Iff.rfl).0 h).1)
 every_set f (x ∷ l) (suc i) a h t =
-    let (y, z) = (both_test (f x) (every f l) Iff.rfl Iff.rfl).0 h in
-    (both_test (f x) (every f (set l i a)) Iff.rfl Iff.rfl).1 (y, every_set f l i a z t)
+    let (y, z) = (both_test (f x) (list_all f l) Iff.rfl Iff.rfl).0 h in
+    (both_test (f x) (list_all f (set l i a)) Iff.rfl Iff.rfl).1 (y, every_set f l i a z t)
 
 cond_test : {A B : Type 0} (b x y : Bool) → T x ↔ A → T y ↔ B → T (cond b x y) ↔ ((T b → A) × (T (not b) → B))
 cond_test true x y e f = (λ t. (λ _. e.0 t, λ n. absurd n), λ h. e.1 (h.0 tt))
 cond_test false x y e f = (λ t. (λ n. absurd n, λ _. f.0 t), λ h. f.1 (h.1 tt))
 
-eqb_test : (m n : ℕ) → T (eqb m n) ↔ (m ≡ n)
+pub eqb_test : (m n : ℕ) → T (eqb m n) ↔ (m ≡ n)
 eqb_test m n = (eqb→eq m n, λ e. rw e (eqb_refl n))
 
 whole_test : (o : Found Program) → T (is_whole o) ↔ ((p : Program) × (m : ℕ) × (o ≡ whole p m))
@@ -76,16 +77,16 @@ pub sound_test : (net : Net) → T (soundb net) ↔ Sound net
 unfolding soundb
 sound_test net = (to, from)
   where
-    trusts : T (every (λ b. leb b 2) net.trust) ↔ ((i : ℕ) → T (leb (get_or net.trust i 0) 2))
+    trusts : T (list_all (λ b. leb b 2) net.trust) ↔ ((i : ℕ) → T (leb (get_or net.trust i 0) 2))
     trusts = every_get (λ b. leb b 2) 0 tt net.trust
 
-    slots : T (every (slotb net) net.threads) ↔ ((s : ℕ) → T (slotb net (thread_at net s)))
+    slots : T (list_all (slotb net) net.threads) ↔ ((s : ℕ) → T (slotb net (thread_at net s)))
     slots = every_get (slotb net) zero_thread tt net.threads
 
     to : T (soundb net) → Sound net
     to h =
         let (a, h') = (both_test (leb net.n 16) _ (leb→le net.n 16, le→leb net.n 16) Iff.rfl).0 h in
-        let (b, c) = (both_test (every (λ b. leb b 2) net.trust) (every (slotb net) net.threads) trusts slots).0 h' in
+        let (b, c) = (both_test (list_all (λ b. leb b 2) net.trust) (list_all (slotb net) net.threads) trusts slots).0 h' in
         record {
           few = a;
           trusts = λ i. leb→le (get_or net.trust i 0) 2 (b i);
@@ -97,6 +98,6 @@ sound_test net = (to, from)
     from h =
         (both_test (leb net.n 16) _ (leb→le net.n 16, le→leb net.n 16) Iff.rfl).1 (
           h.few,
-          (both_test (every (λ b. leb b 2) net.trust) (every (slotb net) net.threads) trusts slots).1
+          (both_test (list_all (λ b. leb b 2) net.trust) (list_all (slotb net) net.threads) trusts slots).1
               (λ i. le→leb (get_or net.trust i 0) 2 (h.trusts i), λ s. (slot_test net (thread_at net s)).1 (h.frees s, h.runs s)),
         )

@@ -1,16 +1,17 @@
 -- What a done call makes of the slots. Assumes nothing.
-use Rattle.std.proofs.Common.{◌≡◌, ℕ, ◌+◌, ◌<◌, true, false, T, eqb, ltb, leb, ◌≢◌, List, length, get_or, set, sym, refl, ap, ◌∙◌, arith, leb→le, length-set, get_or-set_other, get_or-set_same, ne_eqb, leb-false}
+use Rattle.std.proofs.Common.{◌≡◌, ℕ, ◌+◌, ◌<◌, true, false, T, eqb, ltb, leb, ◌≢◌, List, get_or, set, sym, refl, ap, ◌∙◌, arith, leb→le, length-set, get_or-set_other, get_or-set_same, ne_eqb, leb-false}
+use Rattle.std.specs.List.{list_all}
 use mathlib.Core.Logic.Iff
 use native.Mathlib.Decide.{dec_lt}
 use lib.ListN.{get_or-eq_default}
 use Rattle.program.specs.declared.names.Controller.{Controller}
-use Rattle.program.specs.Tree.{Program, end, act, split, repeat, depart, entries}
+use Rattle.program.specs.Tree.{Program, end, act, split, repeat, depart}
 use Rattle.policy.proofs.Tests.{both_test}
 use Rattle.rules.specs.declared.net.Thread.{Thread}
 use Rattle.rules.specs.declared.net.Net.{Net}
 use Rattle.rules.specs.Rows.{NoneHolds}
 use Rattle.rules.specs.Nets.{zero_thread, free, thread_at, free_slot, new_pass, place_bytes, in_net}
-use Rattle.rules.specs.Sound.{every, Placed, Sized, slotb, soundb}
+use Rattle.rules.specs.Sound.{Placed, Sized, slotb, soundb}
 use Rattle.rules.specs.Calls.{goes, moved, node_rows, step_done}
 use Rattle.rules.specs.Paper.{Held, nobody, held, view_of, view}
 use Rattle.rules.proofs.Rows.{never, true_T, passed}
@@ -110,16 +111,16 @@ module _ (net : Net) (sized : Sized net) where
     turns (depart l sl p) e h = one_set _ _ (viewed net (moved net (thread_at net s) l _) p (controller_not_zero net l (passed (in_net net l) h.1.0)) (reads_depart _ _ e))
 
     -- and it leaves the net sound
-    kept_sound : (ts : List Thread) (last : ℕ) → T (soundb net) → T (every (slotb net) ts) → T (soundb (threads_of net ts last))
+    kept_sound : (ts : List Thread) (last : ℕ) → T (soundb net) → T (list_all (slotb net) ts) → T (soundb (threads_of net ts last))
     unfolding soundb
     kept_sound ts last h t =
         let (a, h') = (both_test (leb net.n 16) _ Iff.rfl Iff.rfl).0 h in
-        let (b, c) = (both_test (every (λ b. leb b 2) net.trust) (every (slotb net) net.threads) Iff.rfl Iff.rfl).0 h' in
-        (both_test (leb net.n 16) _ Iff.rfl Iff.rfl).1 (a, (both_test (every (λ b. leb b 2) net.trust) (every (slotb net) ts) Iff.rfl Iff.rfl).1 (b, t))
+        let (b, c) = (both_test (list_all (λ b. leb b 2) net.trust) (list_all (slotb net) net.threads) Iff.rfl Iff.rfl).0 h' in
+        (both_test (leb net.n 16) _ Iff.rfl Iff.rfl).1 (a, (both_test (list_all (λ b. leb b 2) net.trust) (list_all (slotb net) ts) Iff.rfl Iff.rfl).1 (b, t))
 
-    every_slot : T (soundb net) → T (every (slotb net) net.threads)
+    every_slot : T (soundb net) → T (list_all (slotb net) net.threads)
     unfolding soundb
-    every_slot h = ((both_test (every (λ b. leb b 2) net.trust) (every (slotb net) net.threads) Iff.rfl Iff.rfl).0 ((both_test (leb net.n 16) _ Iff.rfl Iff.rfl).0 h).1).1
+    every_slot h = ((both_test (list_all (λ b. leb b 2) net.trust) (list_all (slotb net) net.threads) Iff.rfl Iff.rfl).0 ((both_test (leb net.n 16) _ Iff.rfl Iff.rfl).0 h).1).1
 
     slot_ok : (t : Thread) (p : Program) → free t ≡ false → t.place < 8 → T (in_net net t.controller) → Reads (place_bytes net.places t.place) t.position p → T (slotb net t)
     slot_ok t p r l i e = (slot_test net t).1 (λ f. never (sym r ∙ true_T f), λ _. record { place = l; stands = i; reads = (p, e.0, e.1) })

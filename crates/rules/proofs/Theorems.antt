@@ -1,9 +1,8 @@
 -- The demands are met; what each row means is in `Meanings`. Assumes nothing.
-use Rattle.std.proofs.Common.{◌≡◌, ℕ, ◌+◌, ◌<◌, Bool, true, false, cond, not, ◌||◌, T, eqb, ltb, leb, ◌≢◌, ◌⊎◌, ◌↔◌, List, [], ◌∷◌, ◌++◌, sym, refl, ap, ◌∙◌, subst, inl, inr, arith, le-ltb, eq-eqb, ne_eqb}
+use Rattle.std.proofs.Common.{◌≡◌, ℕ, ◌+◌, ◌<◌, Bool, true, false, cond, not, ◌||◌, T, eqb, ltb, leb, ◌≢◌, ◌⊎◌, ◌↔◌, List, [], ◌∷◌, ◌++◌, sym, refl, ap, ◌∙◌, subst, inl, inr, arith, le-ltb, eq-eqb, ne_eqb, Some, None, Ok, Err}
 use mathlib.Core.Logic.Iff
 use borrow.Author.Tests.{eqb-false}
 use Rattle.program.specs.declared.names.Controller.{Controller}
-use Rattle.program.specs.declared.envelope.Envelope.TheVariants.{Right}
 use Rattle.program.specs.Tree.{Slip, Program, end, act, split, repeat, depart}
 use Rattle.program.specs.Reading.{whole}
 use Rattle.program.specs.Envelope.{envelope}
@@ -17,21 +16,18 @@ use Rattle.policy.proofs.Exact.{exact, exact_honest}
 use Rattle.policy.proofs.Figures.{figure_6}
 use Rattle.rules.specs.declared.net.Thread.{Thread}
 use Rattle.rules.specs.declared.net.Net.{Net}
-use Rattle.rules.specs.declared.reply.PassField.TheVariants as pass
-use Rattle.rules.specs.declared.reply.ControllerField.TheVariants as at
 use Rattle.rules.specs.declared.reply.Fields.{Fields}
 use Rattle.rules.specs.declared.reply.Refusal.{Refusal}
 use Rattle.rules.specs.declared.reply.Refusal.TheVariants as refusal
-use Rattle.rules.specs.declared.reply.Reply.TheVariants.{Done, Refused}
 use Rattle.rules.specs.declared.reply.Outcome.{Outcome}
 use Rattle.rules.specs.Rows.{Row, ◌gives◌, answer, NoneHolds, fields}
 use Rattle.rules.specs.Nets.{free, thread_at, free_slot, free_place, passed_over, new_pass, place_bytes, program_of, program_at, in_net, good, trustworthy, allows}
 use Rattle.rules.specs.Sound.{Sound, Sized, soundb}
-use Rattle.rules.specs.Calls.{code_of, envelope_rows, tree_rows, the_slip, the_code, entry_rows, at_launch, at_entry, slot_row, place_row, launch_rows, launch_done, node_rows, step_rows, step_done, set_up_rows, set_up_done, Call, set_up, launch, step, rows_of, done_of, called}
+use Rattle.rules.specs.Calls.{code_of, envelope_rows, tree_rows, the_slip, the_code, entry_rows, at_launch, at_entry, slot_row, place_row, launch_done, node_rows, step_rows, step_done, set_up_done, Call, set_up, launch, step, rows_of, done_of, called}
 use Rattle.rules.specs.History.{blank, Ledger, step_entry, entered, if_done, recorded, History, opened, then}
-use Rattle.rules.specs.Paper.{nobody, held, view, standing, Admits, Reduces, s_nil, r_act, s_par, s_rep, r_mig}
+use Rattle.rules.specs.Paper.{held, view, standing, Admits, Reduces, s_nil, r_act, s_par, s_rep, r_mig}
 use Rattle.rules.specs.Demands.{RefusedLeaves, ResultsUnique, SoundExact, SoundAfter, SoundSetUp, RowsExact, Runs, Follows, MembraneExact, Launches, LaidOut, TestExact, LaunchExact, EntryExact, Safety, WellFormed, PassesApart, PassFirst, charged, PassTold, departs, issues, Tested, Told}
-use Rattle.rules.proofs.Rows.{done_refused, answered, refused_exactly, done_exactly, done_to, leaves, none_done, none_before, passed, passes, true_T, not_T}
+use Rattle.rules.proofs.Rows.{done_refused, answered, refused_exactly, done_exactly, done_to, leaves, none_done, none_before, passed, passes, not_T}
 use Rattle.rules.proofs.Search.{or_false}
 use Rattle.rules.proofs.Pass.{first_free}
 use Rattle.rules.proofs.Places.{Reads}
@@ -46,7 +42,7 @@ use Rattle.rules.proofs.SetUps.{set_up_inv}
 use Rattle.rules.proofs.SetUps as set_ups
 
 -- what is done replies so
-step_done_lem : (net : Net) (s : ℕ) (t : Thread) (p : Program) → (f : Fields) × ((step_done net s t p).reply ≡ Done f)
+step_done_lem : (net : Net) (s : ℕ) (t : Thread) (p : Program) → (f : Fields) × ((step_done net s t p).reply ≡ Ok f)
 unfolding step_done
 step_done_lem net s t end = (_, refl)
 step_done_lem net s t (act a p) = (_, refl)
@@ -54,7 +50,7 @@ step_done_lem net s t (split p q) = (_, refl)
 step_done_lem net s t (repeat p) = (_, refl)
 step_done_lem net s t (depart l slip p) = (_, refl)
 
-pub is_done : (net : Net) (call : Call) → (f : Fields) × ((done_of net call).reply ≡ Done f)
+pub is_done : (net : Net) (call : Call) → (f : Fields) × ((done_of net call).reply ≡ Ok f)
 unfolding done_of set_up_done launch_done
 is_done net (set_up bytes) = (_, refl)
 is_done net (launch c bytes) = (_, refl)
@@ -102,13 +98,13 @@ rows_exact net call =
     (refused_exactly net (done_of net call) d.0 d.1 (rows_of net call), done_exactly net (done_of net call) d.0 d.1 (rows_of net call))
 
 -- a call that replies done is what it is where no row holds
-when_done : (net : Net) (call : Call) (f : Fields) → (called net call).reply ≡ Done f → NoneHolds (rows_of net call) × (called net call ≡ done_of net call)
+when_done : (net : Net) (call : Call) (f : Fields) → (called net call).reply ≡ Ok f → NoneHolds (rows_of net call) × (called net call ≡ done_of net call)
 when_done net call f e =
     let d = is_done net call in
     let h = done_to net (done_of net call) d.0 d.1 (rows_of net call) f e in
     (h, none_done net (done_of net call) (rows_of net call) h)
 
-set_up_done_lem : (net : Net) (bytes : List ℕ) (f : Fields) → (called net (set_up bytes)).reply ≡ Done f → Inv (called net (set_up bytes)).net blank
+set_up_done_lem : (net : Net) (bytes : List ℕ) (f : Fields) → (called net (set_up bytes)).reply ≡ Ok f → Inv (called net (set_up bytes)).net blank
 unfolding rows_of done_of set_up_done
 set_up_done_lem net bytes f e = let w = when_done net (set_up bytes) f e in subst (λ o. Inv o.net blank) (sym w.1) (set_up_inv bytes w.0)
 
@@ -157,13 +153,13 @@ launches net c bytes f z e =
 -- what the rows of tested code answer where one of them holds; rows behind them do not matter
 code_refuses : (net : Net) (done : Outcome) (honest fits : Bool) (more : List Row) → ¬ NoneHolds (not honest gives refusal.NotHonest ∷ not fits gives refusal.NotFitting ∷ []) →
     let o = answer (not honest gives refusal.NotHonest ∷ not fits gives refusal.NotFitting ∷ more) net done in
-    (o.reply ≡ Refused refusal.NotHonest) ⊎ (o.reply ≡ Refused refusal.NotFitting)
+    (o.reply ≡ Err refusal.NotHonest) ⊎ (o.reply ≡ Err refusal.NotFitting)
 code_refuses net done false fits more n = inl refl
 code_refuses net done true false more n = inr refl
 code_refuses net done true true more n = absurd (n (refl, (refl, tt)))
 
 slip_refuses : (net : Net) (done : Outcome) (fits : Bool) → ¬ NoneHolds (not fits gives refusal.SlipNotFitting ∷ []) →
-    (answer (not fits gives refusal.SlipNotFitting ∷ []) net done).reply ≡ Refused refusal.SlipNotFitting
+    (answer (not fits gives refusal.SlipNotFitting ∷ []) net done).reply ≡ Err refusal.SlipNotFitting
 slip_refuses net done false n = refl
 slip_refuses net done true n = absurd (n (refl, tt))
 
@@ -195,7 +191,7 @@ module _ (net : Net) (s : ℕ) (l : Controller) (slip : Slip) (p : Program) (sou
       ∙ none_before net (done_of net (step s)) front (entry_rows (at_entry net l (thread_at net s).controller) (allows net l) slip p) front_none
 
 -- no refusal where no row holds
-not_refused : (net : Net) (call : Call) (r : Refusal) → called net call ≡ done_of net call → (called net call).reply ≡ Refused r → ⊥
+not_refused : (net : Net) (call : Call) (r : Refusal) → called net call ≡ done_of net call → (called net call).reply ≡ Err r → ⊥
 not_refused net call r e x = let d = is_done net call in done_refused (sym d.1 ∙ ap (λ o. o.reply) (sym e) ∙ x)
 
 pub membrane_exact : MembraneExact
@@ -208,7 +204,7 @@ membrane_exact net s l slip p z sound run is away known = (to, from (good net l 
     low = run_low net z s (not_T {b = free (thread_at net s)} run)
 
     Refusing : Outcome → Type 0
-    Refusing o = (o.reply ≡ Refused refusal.SlipNotFitting) ⊎ ((o.reply ≡ Refused refusal.NotHonest) ⊎ (o.reply ≡ Refused refusal.NotFitting))
+    Refusing o = (o.reply ≡ Err refusal.SlipNotFitting) ⊎ ((o.reply ≡ Err refusal.NotHonest) ⊎ (o.reply ≡ Err refusal.NotFitting))
 
     entry_is : called net (step s) ≡ answer (entry_rows (at_entry net l k) (allows net l) slip p) net (done_of net (step s))
     entry_is = at_entry_lem net s l slip p sound run low is away known
@@ -216,7 +212,7 @@ membrane_exact net s l slip p z sound run is away known = (to, from (good net l 
     to : Refusing (called net (step s)) → ¬ Admits net l k slip p
     to h a = elim h [ inl x ↦ no _ x | inr y ↦ elim y [ inl x ↦ no _ x | inr x ↦ no _ x ] ]
       where
-        no : (r : Refusal) → (called net (step s)).reply ≡ Refused r → ⊥
+        no : (r : Refusal) → (called net (step s)).reply ≡ Err r → ⊥
         no r = not_refused net (step s) r (entry_is ∙ none_done net (done_of net (step s)) (entry_rows (at_entry net l k) (allows net l) slip p) ((admits_exactly net l k slip p).1 a))
 
     from : (g : Bool) → good net l k ≡ g → ¬ Admits net l k slip p → Refusing (called net (step s))
@@ -242,7 +238,7 @@ test_exact = code_exact
 -- where the code is tested, 8 and 7 are given exactly so; the rows behind the test give neither
 module _ (net : Net) (call : Call) (allowed : Policy) (slip : Slip) (p : Program) (more : List Row)
     (is : called net call ≡ answer (entry_rows the_code allowed slip p ++ more) net (done_of net call))
-    (other : (r : Refusal) → (answer more net (done_of net call)).reply ≡ Refused r → (r ≢ refusal.NotHonest) × (r ≢ refusal.NotFitting)) where
+    (other : (r : Refusal) → (answer more net (done_of net call)).reply ≡ Err r → (r ≢ refusal.NotHonest) × (r ≢ refusal.NotFitting)) where
   by_tests : (honest fits : Bool) → T honest ↔ KeepsSlips p → T fits ↔ Keeps allowed p →
       let o = answer (not honest gives refusal.NotHonest ∷ not fits gives refusal.NotFitting ∷ more) net (done_of net call) in Tested o allowed p
   by_tests false fits h f = ((λ _ k. h.1 k, λ _. refl), (λ e. absurd (let z : ◌≡◌ {A = ℕ} 0 1 = cc in omega arith), λ k. absurd (h.1 k.0)))
@@ -278,7 +274,7 @@ launch_exact net c bytes trusty sound right tree known =
         (entry_rows (at_launch net c) (allows net c) [] (code_of bytes) ++ room)
         (passes (soundb net) ((sound_test net).1 sound), rw right (refl, (refl, (refl, (tree.0, (tree.1.0, (tree.1.1.0, (passes (in_net net c) known, tt))))))))
 
-    other : (a b : Bool) (r : Refusal) → (answer (a gives refusal.NoSlot ∷ b gives refusal.NoPlace ∷ []) net (done_of net (launch c bytes))).reply ≡ Refused r →
+    other : (a b : Bool) (r : Refusal) → (answer (a gives refusal.NoSlot ∷ b gives refusal.NoPlace ∷ []) net (done_of net (launch c bytes))).reply ≡ Err r →
         (r ≢ refusal.NotHonest) × (r ≢ refusal.NotFitting)
     other true b r e = (λ x. let z : ◌≡◌ {A = ℕ} 0 1 = cc in omega arith, λ x. let z : ◌≡◌ {A = ℕ} 0 1 = cc in omega arith)
     other false true r e = (λ x. let z : ◌≡◌ {A = ℕ} 0 1 = cc in omega arith, λ x. let z : ◌≡◌ {A = ℕ} 0 1 = cc in omega arith)
@@ -335,13 +331,13 @@ well_formed net b h i r t =
 
 -- what a done call shows of passes
 record Issues (net : Net) (call : Call) (o : Outcome) : Type 0 where
-  of_fresh : (fields o.reply).fresh ≡ cond (issues net call) (pass.Is (new_pass net)) pass.Absent
+  of_fresh : (fields o.reply).fresh ≡ cond (issues net call) (Some (new_pass net)) None
   of_over : (fields o.reply).over ≡ cond (issues net call) (passed_over net) 0
   of_last : T (issues net call) → o.net.counter.last ≡ new_pass net
 
 step_issues : (net : Net) (s : ℕ) (t : Thread) (p : Program) →
     let o = step_done net s t p in
-    ((fields o.reply).fresh ≡ cond (departs p) (pass.Is (new_pass net)) pass.Absent) × ((fields o.reply).over ≡ cond (departs p) (passed_over net) 0)
+    ((fields o.reply).fresh ≡ cond (departs p) (Some (new_pass net)) None) × ((fields o.reply).over ≡ cond (departs p) (passed_over net) 0)
     × (T (departs p) → o.net.counter.last ≡ new_pass net)
 unfolding step_done
 step_issues net s t end = (refl, refl, λ n. absurd n)
@@ -363,8 +359,8 @@ pass_told net call f e =
 
 -- what a done step shows, by its program
 record Tells (net : Net) (b : Ledger) (s : ℕ) (t : Thread) (p : Program) (f : Fields) : Type 0 where
-  of_pass : f.pass ≡ pass.Is t.pass
-  of_place : f.controller ≡ at.Is t.controller
+  of_pass : f.pass ≡ Some t.pass
+  of_place : f.controller ≡ Some t.controller
   of_name : (stay α : ℕ) → (step_entry b s (free_slot net) p).used stay α ≡ b.used stay α + cond (eqb (b.stay s) stay) (charged f.name α) 0
 
 tells : (net : Net) (b : Ledger) (s : ℕ) (t : Thread) (p : Program) → Tells net b s t p (fields (step_done net s t p).reply)
@@ -384,4 +380,4 @@ told net b h s f e =
     let shown : fields (step_done net s t p).reply ≡ f = ap (λ o. fields o.reply) (sym w.1) ∙ ap fields e in
     let y = subst (Tells net b s t p) shown (tells net b s t p) in
     let home = ((passes_apart net b h).1 s (rw (runs net s w.0) tt)).1 in
-    (y.of_pass, y.of_place ∙ ap at.Is (sym home), λ stay α. ap (λ r. (if_done r b (entered net b (step s))).used stay α) e ∙ y.of_name stay α)
+    (y.of_pass, y.of_place ∙ ap Some (sym home), λ stay α. ap (λ r. (if_done r b (entered net b (step s))).used stay α) e ∙ y.of_name stay α)

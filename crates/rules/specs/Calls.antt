@@ -1,8 +1,9 @@
 -- The three calls: the rows of each in the document's order, and the whole net and reply where none of them holds. Definitions only.
-use Rattle.std.specs.Prelude.{ℕ, zero, suc, ◌+◌, ◌-◌, ◌*◌, ◌/◌, ◌%◌, Bool, true, false, cond, not, ◌&&◌, ◌||◌, List, [], ◌∷◌, ◌++◌, length, take, drop, replicate, ◌==◌, nat_eq, nat_le, nat_lt, slice_index, slice_set}
+use Rattle.std.specs.Prelude.{ℕ, ◌+◌, ◌-◌, ◌*◌, ◌/◌, ◌%◌, Bool, true, false, cond, not, ◌&&◌, ◌||◌, List, [], ◌∷◌, ◌++◌, map, length, take, drop, replicate, ◌==◌, nat_eq, nat_le, nat_lt, slice_index, slice_set, Option, Some, None, Ok, Result, Err, ⊤}
+use Rattle.std.specs.List.{list_all, range_with_len}
 use Rattle.program.specs.declared.names.Controller.{Controller}
-use Rattle.program.specs.declared.envelope.Envelope.{Envelope}
-use Rattle.program.specs.declared.envelope.Envelope.TheVariants.{Right, Fewer, Length, Version}
+use Rattle.program.specs.declared.envelope.EnvelopeFault.{EnvelopeFault}
+use Rattle.program.specs.declared.envelope.EnvelopeFault.TheVariants.{Fewer, Length, Version}
 use Rattle.program.specs.Names.{controller}
 use Rattle.program.specs.Tree.{Slip, Program, end, act, split, repeat, depart, entries, encode}
 use Rattle.program.specs.Reading.{Found, whole, cut, bad, read_at}
@@ -11,18 +12,13 @@ use Rattle.policy.specs.Counts.{Policy}
 use Rattle.policy.specs.Tests.{fits_allb, honestb, slip_fitsb}
 use Rattle.rules.specs.declared.net.Thread.{Thread}
 use Rattle.rules.specs.declared.net.Net.{Net}
-use Rattle.rules.specs.declared.reply.PassField.{PassField}
-use Rattle.rules.specs.declared.reply.PassField.TheVariants as pass
-use Rattle.rules.specs.declared.reply.ControllerField.{ControllerField}
-use Rattle.rules.specs.declared.reply.ControllerField.TheVariants as at
-use Rattle.rules.specs.declared.reply.NameField.{NameField}
-use Rattle.rules.specs.declared.reply.NameField.TheVariants as name
+use Rattle.rules.specs.declared.reply.Name.{Name}
+use Rattle.rules.specs.declared.reply.Name.TheVariants as name
 use Rattle.rules.specs.declared.reply.Refusal.TheVariants as refusal
-use Rattle.rules.specs.declared.reply.Reply.TheVariants.{Done}
 use Rattle.rules.specs.declared.reply.Outcome.{Outcome}
 use Rattle.rules.specs.Rows.{Row, ◌gives◌, no_fields, answer}
 use Rattle.rules.specs.Nets.{zero_thread, free, thread_at, free_slot, free_place, passed_over, new_pass, program_of, program_at, in_net, trust, good, trustworthy, allows}
-use Rattle.rules.specs.Sound.{every, soundb}
+use Rattle.rules.specs.Sound.{soundb}
 
 -- a net with a thread in a slot, with other place bytes, and with another last pass
 abbrev pub in_slot : Net → ℕ → Thread → Net
@@ -38,30 +34,30 @@ with_last net last =
     record { n = net.n; trust = net.trust; policies = net.policies; threads = net.threads; places = net.places; counter = record { last = last } }
 
 -- a done reply shows pass of the acting stay, its controller, the name used, the new pass; and the number passed over
-abbrev pub done : PassField → ControllerField → NameField → PassField → ℕ → Net → Outcome
+abbrev pub done : Option ℕ → Option Controller → Option Name → Option ℕ → ℕ → Net → Outcome
 done pass controller name fresh over net =
-    record { reply = Done (record { pass = pass; controller = controller; name = name; fresh = fresh; over = over }); net = net }
+    record { reply = Ok (record { pass = pass; controller = controller; name = name; fresh = fresh; over = over }); net = net }
 
 -- ENVELOPE: 1, 2, 3, in the order that `envelope` has
-abbrev pub is_fewer : Envelope → Bool
-is_fewer Right = false
-is_fewer Fewer = true
-is_fewer Length = false
-is_fewer Version = false
+abbrev pub is_fewer : Result ⊤ EnvelopeFault → Bool
+is_fewer (Ok right) = false
+is_fewer (Err Fewer) = true
+is_fewer (Err Length) = false
+is_fewer (Err Version) = false
 
-abbrev pub is_length : Envelope → Bool
-is_length Right = false
-is_length Fewer = false
-is_length Length = true
-is_length Version = false
+abbrev pub is_length : Result ⊤ EnvelopeFault → Bool
+is_length (Ok right) = false
+is_length (Err Fewer) = false
+is_length (Err Length) = true
+is_length (Err Version) = false
 
-abbrev pub is_version : Envelope → Bool
-is_version Right = false
-is_version Fewer = false
-is_version Length = false
-is_version Version = true
+abbrev pub is_version : Result ⊤ EnvelopeFault → Bool
+is_version (Ok right) = false
+is_version (Err Fewer) = false
+is_version (Err Length) = false
+is_version (Err Version) = true
 
-abbrev pub envelope_rows : Envelope → List Row
+abbrev pub envelope_rows : Result ⊤ EnvelopeFault → List Row
 envelope_rows e = is_fewer e gives refusal.Fewer ∷ is_length e gives refusal.Length ∷ is_version e gives refusal.Version ∷ []
 
 -- TREE: 4, 5, 6
@@ -142,7 +138,7 @@ begun net c = record { place = free_place net; position = 0; controller = c; pas
 
 unfoldable pub launch_done : Net → Controller → List ℕ → Outcome
 launch_done net c bytes =
-    done pass.Absent (at.Is c) name.Absent (pass.Is (new_pass net)) (passed_over net)
+    done None (Some c) None (Some (new_pass net)) (passed_over net)
     (with_last (with_places (in_slot net (free_slot net) (begun net c)) (written net.places (free_place net) (tree bytes))) (new_pass net))
 
 -- STEP: 99, 11, then by node 9, or 13, 16, then 12 alone or 8 before 7
@@ -170,28 +166,24 @@ abbrev pub moved : Net → Thread → Controller → ℕ → Thread
 moved net t l position = record { place = t.place; position = position; controller = l; pass = new_pass net }
 
 -- a step without a new pass
-abbrev pub acts : Thread → NameField → Net → Outcome
-acts t name net = done (pass.Is t.pass) (at.Is t.controller) name pass.Absent 0 net
+abbrev pub acts : Thread → Option Name → Net → Outcome
+acts t name net = done (Some t.pass) (Some t.controller) name None 0 net
 
 -- "end: the slot becomes free; act: the action is used by this stay, the thread goes on; split: the thread takes the first side, the lowest
 -- free slot the second, same pass; repeat: the thread stays, the lowest free slot gets the body, same pass; depart: .. the thread stands at
 -- the target, at the carried program, with a new pass"
 unfoldable pub step_done : Net → ℕ → Thread → Program → Outcome
-step_done net slot t end = acts t name.Absent (in_slot net slot zero_thread)
-step_done net slot t (act a p) = acts t (name.Acted a) (in_slot net slot (goes t (t.position + 1 + 1)))
+step_done net slot t end = acts t None (in_slot net slot zero_thread)
+step_done net slot t (act a p) = acts t (Some (name.Acted a)) (in_slot net slot (goes t (t.position + 1 + 1)))
 step_done net slot t (split p q) =
-    acts t name.Absent (in_slot (in_slot net slot (goes t (t.position + 1))) (free_slot net) (goes t (t.position + 1 + length (encode p))))
-step_done net slot t (repeat p) = acts t name.Absent (in_slot net (free_slot net) (goes t (t.position + 1)))
+    acts t None (in_slot (in_slot net slot (goes t (t.position + 1))) (free_slot net) (goes t (t.position + 1 + length (encode p))))
+step_done net slot t (repeat p) = acts t None (in_slot net (free_slot net) (goes t (t.position + 1)))
 step_done net slot t (depart l slip p) =
-    done (pass.Is t.pass) (at.Is t.controller) (name.Went l) (pass.Is (new_pass net)) (passed_over net)
+    done (Some t.pass) (Some t.controller) (Some (name.Went l)) (Some (new_pass net)) (passed_over net)
     (with_last (in_slot net slot (moved net t l (t.position + 1 + 1 + 1 + length (entries slip)))) (new_pass net))
 
--- SET-UP: a byte, or zero, at each index of a list
-unfoldable pub laid : (ℕ → ℕ) → ℕ → ℕ → List ℕ
-laid f k zero = []
-laid f k (suc n) = f k ∷ laid f (k + 1) n
-
--- "number of controllers n, n × n trust bytes row by row (row: who trusts), n × 32 policy counts"
+-- SET-UP: a byte, or zero, at each index of a table; "number of controllers n, n × n trust bytes row by row (row: who
+-- trusts), n × 32 policy counts"
 abbrev pub controllers_of : List ℕ → ℕ
 controllers_of bytes = slice_index bytes 3
 
@@ -205,8 +197,8 @@ policy_byte bytes n x = cond (nat_lt (x / 32) n) (slice_index bytes (4 + n * n +
 abbrev pub fresh : ℕ → List ℕ → Net
 fresh n bytes = record {
   n = n;
-  trust = laid (trust_byte bytes n) 0 256;
-  policies = laid (policy_byte bytes n) 0 512;
+  trust = map (trust_byte bytes n) (range_with_len 0 256);
+  policies = map (policy_byte bytes n) (range_with_len 0 512);
   threads = replicate 64 zero_thread;
   places = replicate 3072 0;
   counter = record { last = 65535 };
@@ -220,10 +212,10 @@ abbrev pub agreesb : Net → Controller → Controller → Bool
 agreesb net k l = not (trustworthy net k) || (trust net k l == 0 || trust net k l == trust net l l)
 
 abbrev pub controllers : Net → List ℕ
-controllers net = laid (λ k. k) 16 net.n
+controllers net = range_with_len 16 net.n
 
 unfoldable pub coherentb : Net → Bool
-coherentb net = every (λ k. every (λ l. agreesb net (controller k) (controller l)) (controllers net)) (controllers net)
+coherentb net = list_all (λ k. list_all (λ l. agreesb net (controller k) (controller l)) (controllers net)) (controllers net)
 
 -- 1, 2, 3, then 14 for n, for the length and for a trust byte, then 15
 abbrev pub set_up_rows : List ℕ → List Row
@@ -231,12 +223,12 @@ set_up_rows bytes =
     envelope_rows (envelope 2 770 bytes)
     ++ ((nat_lt (controllers_of bytes) 1 || nat_lt 16 (controllers_of bytes)) gives refusal.BadSetUp
     ∷ not (stated bytes == 2 + controllers_of bytes * controllers_of bytes + 32 * controllers_of bytes) gives refusal.BadSetUp
-    ∷ not (every (λ b. nat_le b 2) (set_up_net bytes).trust) gives refusal.BadSetUp
+    ∷ not (list_all (λ b. nat_le b 2) (set_up_net bytes).trust) gives refusal.BadSetUp
     ∷ not (coherentb (set_up_net bytes)) gives refusal.NotCoherent
     ∷ [])
 
 unfoldable pub set_up_done : List ℕ → Outcome
-set_up_done bytes = record { reply = Done no_fields; net = set_up_net bytes }
+set_up_done bytes = record { reply = Ok no_fields; net = set_up_net bytes }
 
 -- THE CALLS: their rows, and the outcome where none holds
 pub data Call : Type 0 where

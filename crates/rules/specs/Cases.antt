@@ -6,8 +6,7 @@ use Rattle.policy.specs.Counts.{Count, finite, unlimited}
 use Rattle.policy.specs.Needs.{need}
 use Rattle.rules.specs.declared.net.Thread.{Thread}
 use Rattle.rules.specs.declared.net.Net.{Net}
-use Rattle.rules.specs.declared.reply.Reply.{Reply}
-use Rattle.rules.specs.Rows.{number}
+use Rattle.rules.specs.Rows.{number, Reply}
 use Rattle.rules.specs.Nets.{program_of, new_pass, passed_over}
 use Rattle.rules.specs.Calls.{Call, set_up, launch, step, called}
 

@@ -1,7 +1,8 @@
 -- What the proofs settle: each statement beside the sentence of the demands or of document 01 that it settles. Definitions only.
-use Rattle.std.specs.Prelude.{◌≡◌, ℕ, ◌+◌, ◌-◌, ◌*◌, ◌<◌, ◌≤◌, Bool, true, false, cond, not, ◌||◌, T, leb, ◌≢◌, ◌⊎◌, ◌↔◌, List, ◌++◌, length, ◌==◌, nat_le, nat_lt, slice_index}
+use Rattle.std.specs.Prelude.{◌≡◌, ℕ, ◌+◌, ◌-◌, ◌*◌, ◌<◌, ◌≤◌, Bool, true, false, cond, not, ◌||◌, T, leb, ◌≢◌, ◌⊎◌, ◌↔◌, List, ◌++◌, length, ◌==◌, nat_le, nat_lt, slice_index, Option, Some, None, Ok, Err}
+use Rattle.std.specs.List.{list_all}
 use Rattle.program.specs.declared.names.Controller.{Controller}
-use Rattle.program.specs.declared.envelope.Envelope.TheVariants as envelopes
+use Rattle.program.specs.declared.envelope.EnvelopeFault.TheVariants as envelopes
 use Rattle.program.specs.Tree.{Slip, Program, end, act, split, repeat, depart, encode, Good}
 use Rattle.program.specs.Reading.{whole, cut, bad}
 use Rattle.program.specs.Envelope.{stated, envelope, Means}
@@ -11,25 +12,22 @@ use Rattle.policy.specs.Tests.{fits_allb, honestb, slip_fitsb}
 use Rattle.policy.specs.Runs.{Keeps, KeepsSlips}
 use Rattle.policy.specs.Figures.{Typed}
 use Rattle.rules.specs.declared.net.Net.{Net}
-use Rattle.rules.specs.declared.reply.PassField.TheVariants as pass
-use Rattle.rules.specs.declared.reply.ControllerField.TheVariants as at
-use Rattle.rules.specs.declared.reply.NameField.{NameField}
-use Rattle.rules.specs.declared.reply.NameField.TheVariants as name
+use Rattle.rules.specs.declared.reply.Name.{Name}
+use Rattle.rules.specs.declared.reply.Name.TheVariants as name
 use Rattle.rules.specs.declared.reply.Fields.{Fields}
 use Rattle.rules.specs.declared.reply.Refusal.{Refusal}
 use Rattle.rules.specs.declared.reply.Refusal.TheVariants as refusal
-use Rattle.rules.specs.declared.reply.Reply.TheVariants.{Done, Refused}
 use Rattle.rules.specs.declared.reply.Outcome.{Outcome}
-use Rattle.rules.specs.Rows.{NoneHolds, First, fields}
+use Rattle.rules.specs.Rows.{NoneHolds, First}
 use Rattle.rules.specs.Nets.{free, thread_at, free_slot, free_place, candidate, carried, passed_over, new_pass, program_at, in_net, trust, good, trustworthy, policy_of, allows}
-use Rattle.rules.specs.Sound.{every, Sound, Sized, soundb}
+use Rattle.rules.specs.Sound.{Sound, Sized, soundb}
 use Rattle.rules.specs.Calls.{is_fewer, is_length, is_version, tree, read_tree, code_of, is_cut, is_bad, leaves_over, tree_rows, the_code, entry_rows, controllers_of, set_up_net, coherentb, Call, set_up, launch, step, rows_of, done_of, called}
 use Rattle.rules.specs.History.{Ledger, recorded, History}
 use Rattle.rules.specs.Paper.{held, view, standing, Coherent, Admits, Reduces}
 
 -- DEMAND 1. "A refused call returns its number from the table, and the net is afterwards byte for byte what it was."
 abbrev pub RefusedLeaves : Type 0
-RefusedLeaves = (net : Net) (call : Call) (r : Refusal) → (called net call).reply ≡ Refused r → (called net call).net ≡ net
+RefusedLeaves = (net : Net) (call : Call) (r : Refusal) → (called net call).reply ≡ Err r → (called net call).net ≡ net
 
 -- "any two results it permits are proved equal": the promise of each call is the equation with `called`
 abbrev pub ResultsUnique : Type 0
@@ -43,13 +41,13 @@ abbrev pub SoundAfter : Type 0
 SoundAfter = (net : Net) (call : Call) → Sized net → Sound net → Sized (called net call).net × Sound (called net call).net
 
 abbrev pub SoundSetUp : Type 0
-SoundSetUp = (net : Net) (bytes : List ℕ) (f : Fields) → (called net (set_up bytes)).reply ≡ Done f →
+SoundSetUp = (net : Net) (bytes : List ℕ) (f : Fields) → (called net (set_up bytes)).reply ≡ Ok f →
     Sized (called net (set_up bytes)).net × Sound (called net (set_up bytes)).net
 
 -- DEMAND 2. "each refusal is given exactly when its row says": exactly if its row is the first that holds; and a call is done exactly if none does
 abbrev pub RowsExact : Type 0
 RowsExact = (net : Net) (call : Call) →
-    ((r : Refusal) → ((called net call).reply ≡ Refused r) ↔ First (rows_of net call) r)
+    ((r : Refusal) → ((called net call).reply ≡ Err r) ↔ First (rows_of net call) r)
     × ((called net call ≡ done_of net call) ↔ NoneHolds (rows_of net call))
 
 -- what each row says, in plain words
@@ -58,9 +56,9 @@ Runs net slot = T (not (free (thread_at net slot)))
 
 pub record Meanings : Type 0 where
   -- 1 "fewer than 2 bytes, or fewer than 2 + length"; 2 "length outside its range, or bytes beyond 2 + length"; 3 "version not 1"
-  pub row_1 : (most : ℕ) (bytes : List ℕ) → T (is_fewer (envelope 2 most bytes)) ↔ Means 2 most bytes envelopes.Fewer
-  pub row_2 : (most : ℕ) (bytes : List ℕ) → T (is_length (envelope 2 most bytes)) ↔ Means 2 most bytes envelopes.Length
-  pub row_3 : (most : ℕ) (bytes : List ℕ) → T (is_version (envelope 2 most bytes)) ↔ Means 2 most bytes envelopes.Version
+  pub row_1 : (most : ℕ) (bytes : List ℕ) → T (is_fewer (envelope 2 most bytes)) ↔ Means 2 most bytes (Err envelopes.Fewer)
+  pub row_2 : (most : ℕ) (bytes : List ℕ) → T (is_length (envelope 2 most bytes)) ↔ Means 2 most bytes (Err envelopes.Length)
+  pub row_3 : (most : ℕ) (bytes : List ℕ) → T (is_version (envelope 2 most bytes)) ↔ Means 2 most bytes (Err envelopes.Version)
   -- 4 "the bytes end before the tree is whole"; 5 "a byte with no meaning at its place"; 6 "tree bytes left over"; and else the tree is a program's
   pub row_4 : (bytes : List ℕ) → T (is_cut (read_tree bytes)) ↔ (read_tree bytes ≡ cut)
   pub row_5 : (bytes : List ℕ) → T (is_bad (read_tree bytes)) ↔ ((o : ℕ) × (read_tree bytes ≡ bad o))
@@ -82,14 +80,14 @@ pub record Meanings : Type 0 where
   pub row_14_length : (bytes : List ℕ) →
       T (not (stated bytes == 2 + controllers_of bytes * controllers_of bytes + 32 * controllers_of bytes))
       ↔ (stated bytes ≢ 2 + controllers_of bytes * controllers_of bytes + 32 * controllers_of bytes)
-  pub row_14_trust : (bytes : List ℕ) → T (not (every (λ b. leb b 2) (set_up_net bytes).trust)) ↔ (¬ ((i : ℕ) → slice_index (set_up_net bytes).trust i ≤ 2))
+  pub row_14_trust : (bytes : List ℕ) → T (not (list_all (λ b. leb b 2) (set_up_net bytes).trust)) ↔ (¬ ((i : ℕ) → slice_index (set_up_net bytes).trust i ≤ 2))
   pub row_15 : (net : Net) → T (not (coherentb net)) ↔ (¬ Coherent net)
   pub row_99 : (net : Net) → T (not (soundb net)) ↔ (¬ Sound net)
 
 -- "Entry, splitting, repeating, acting and moving follow the counted-policy rules of the paper": a done step is a reduction of the paper on its
 -- thread, and leaves every other thread alone
 abbrev pub Follows : Type 0
-Follows = (net : Net) (s : ℕ) (f : Fields) → Sized net → (called net (step s)).reply ≡ Done f →
+Follows = (net : Net) (s : ℕ) (f : Fields) → Sized net → (called net (step s)).reply ≡ Ok f →
     Reduces net (thread_at net s).controller (program_at net (thread_at net s))
     (standing (view (called net (step s)).net s) ++ standing (view (called net (step s)).net (free_slot net)))
     × ((j : ℕ) → j ≢ s → j ≢ free_slot net → view (called net (step s)).net j ≡ view net j)
@@ -98,13 +96,13 @@ Follows = (net : Net) (s : ℕ) (f : Fields) → Sized net → (called net (step
 abbrev pub MembraneExact : Type 0
 MembraneExact = (net : Net) (s : ℕ) (l : Controller) (slip : Slip) (p : Program) → Sized net → Sound net → Runs net s →
     program_at net (thread_at net s) ≡ depart l slip p → l ≢ (thread_at net s).controller → T (in_net net l) →
-    (((called net (step s)).reply ≡ Refused refusal.SlipNotFitting)
-    ⊎ (((called net (step s)).reply ≡ Refused refusal.NotHonest) ⊎ ((called net (step s)).reply ≡ Refused refusal.NotFitting)))
+    (((called net (step s)).reply ≡ Err refusal.SlipNotFitting)
+    ⊎ (((called net (step s)).reply ≡ Err refusal.NotHonest) ⊎ ((called net (step s)).reply ≡ Err refusal.NotFitting)))
     ↔ (¬ Admits net l (thread_at net s).controller slip p)
 
 -- a done launch puts its code into the lowest free slot, with the new pass, and leaves every other thread alone
 abbrev pub Launches : Type 0
-Launches = (net : Net) (c : Controller) (bytes : List ℕ) (f : Fields) → Sized net → (called net (launch c bytes)).reply ≡ Done f →
+Launches = (net : Net) (c : Controller) (bytes : List ℕ) (f : Fields) → Sized net → (called net (launch c bytes)).reply ≡ Ok f →
     (view (called net (launch c bytes)).net (free_slot net) ≡ held c (code_of bytes) (new_pass net))
     × ((j : ℕ) → j ≢ free_slot net → view (called net (launch c bytes)).net j ≡ view net j)
 
@@ -126,12 +124,12 @@ TestExact = (allowed : Policy) (slip : Slip) (p : Program) → NoneHolds (entry_
 -- "The need is tested after honesty, so both faults give 8": what the reply to tested code is exactly
 abbrev pub Tested : Outcome → Policy → Program → Type 0
 Tested o allowed p =
-    ((o.reply ≡ Refused refusal.NotHonest) ↔ (¬ KeepsSlips p))
-    × ((o.reply ≡ Refused refusal.NotFitting) ↔ (KeepsSlips p × (¬ Keeps allowed p)))
+    ((o.reply ≡ Err refusal.NotHonest) ↔ (¬ KeepsSlips p))
+    × ((o.reply ≡ Err refusal.NotFitting) ↔ (KeepsSlips p × (¬ Keeps allowed p)))
 
 -- so at a launch at a trustworthy controller, where no earlier row holds
 abbrev pub LaunchExact : Type 0
-LaunchExact = (net : Net) (c : Controller) (bytes : List ℕ) → T (trustworthy net c) → Sound net → envelope 2 385 bytes ≡ envelopes.Right →
+LaunchExact = (net : Net) (c : Controller) (bytes : List ℕ) → T (trustworthy net c) → Sound net → envelope 2 385 bytes ≡ Ok tt →
     NoneHolds (tree_rows bytes) → T (in_net net c) → Tested (called net (launch c bytes)) (allows net c) (code_of bytes)
 
 -- and at an entry from a controller that is not good
@@ -180,19 +178,19 @@ issues net (launch c bytes) = true
 issues net (step slot) = departs (program_at net (thread_at net slot))
 
 abbrev pub PassTold : Type 0
-PassTold = (net : Net) (call : Call) (f : Fields) → (called net call).reply ≡ Done f →
-    (f.fresh ≡ cond (issues net call) (pass.Is (new_pass net)) pass.Absent)
+PassTold = (net : Net) (call : Call) (f : Fields) → (called net call).reply ≡ Ok f →
+    (f.fresh ≡ cond (issues net call) (Some (new_pass net)) None)
     × (f.over ≡ cond (issues net call) (passed_over net) 0)
     × (T (issues net call) → (called net call).net.counter.last ≡ new_pass net)
 
 -- what a done step shows is the acting stay's pass and controller, and the name that the ledger charges to it, which is all that it charges
-abbrev pub charged : NameField → ℕ → ℕ
-charged (name.Acted a) α = same a.0 α
-charged (name.Went l) α = same l.0 α
-charged name.Absent α = 0
+abbrev pub charged : Option Name → ℕ → ℕ
+charged (Some (name.Acted a)) α = same a.0 α
+charged (Some (name.Went l)) α = same l.0 α
+charged None α = 0
 
 abbrev pub Told : Type 0
-Told = (net : Net) (b : Ledger) → History net b → (s : ℕ) (f : Fields) → (called net (step s)).reply ≡ Done f →
-    (f.pass ≡ pass.Is (thread_at net s).pass)
-    × (f.controller ≡ at.Is (b.home (b.stay s)))
+Told = (net : Net) (b : Ledger) → History net b → (s : ℕ) (f : Fields) → (called net (step s)).reply ≡ Ok f →
+    (f.pass ≡ Some (thread_at net s).pass)
+    × (f.controller ≡ Some (b.home (b.stay s)))
     × ((stay α : ℕ) → (recorded net b (step s)).used stay α ≡ b.used stay α + cond (b.stay s == stay) (charged f.name α) 0)

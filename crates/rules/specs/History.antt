@@ -1,13 +1,12 @@
 -- Histories, and a ledger of stays that is kept of them without pass numbers. Definitions only.
-use Rattle.std.specs.Prelude.{◌≡◌, ℕ, ◌+◌, cond, List, [], ◌∷◌, ◌==◌}
+use Rattle.std.specs.Prelude.{◌≡◌, ℕ, ◌+◌, cond, List, ◌==◌, Ok, Err}
 use Rattle.program.specs.declared.names.Controller.{Controller}
 use Rattle.program.specs.Names.{controller}
 use Rattle.program.specs.Tree.{Program, end, act, split, repeat, depart}
 use Rattle.policy.specs.Needs.{same}
 use Rattle.rules.specs.declared.net.Net.{Net}
 use Rattle.rules.specs.declared.reply.Fields.{Fields}
-use Rattle.rules.specs.declared.reply.Reply.{Reply}
-use Rattle.rules.specs.declared.reply.Reply.TheVariants.{Done, Refused}
+use Rattle.rules.specs.Rows.{Reply}
 use Rattle.rules.specs.Nets.{thread_at, program_at, free_slot}
 use Rattle.rules.specs.Calls.{Call, set_up, launch, step, called}
 
@@ -49,13 +48,13 @@ entered net b (step slot) = step_entry b slot (free_slot net) (program_at net (t
 
 -- a refused call enters nothing
 abbrev pub if_done : Reply → Ledger → Ledger → Ledger
-if_done (Done f) b b' = b'
-if_done (Refused r) b b' = b
+if_done (Ok f) b b' = b'
+if_done (Err r) b b' = b
 
 abbrev pub recorded : Net → Ledger → Call → Ledger
 recorded net b call = if_done (called net call).reply b (entered net b call)
 
 -- a history: a set-up that was accepted, on any record, and then any calls, each on the net that the one before left
 pub data History : Net → Ledger → Type 0 where
-  opened : (before : Net) (bytes : List ℕ) (f : Fields) → (called before (set_up bytes)).reply ≡ Done f → History (called before (set_up bytes)).net blank
+  opened : (before : Net) (bytes : List ℕ) (f : Fields) → (called before (set_up bytes)).reply ≡ Ok f → History (called before (set_up bytes)).net blank
   then : {net : Net} {b : Ledger} → History net b → (call : Call) → History (called net call).net (recorded net b call)

@@ -1,5 +1,6 @@
 -- Document 01, "The net": the record in the document's words. Definitions only.
-use Rattle.std.specs.Prelude.{ℕ, zero, suc, ◌+◌, ◌-◌, ◌*◌, ◌%◌, Bool, false, cond, not, ◌&&◌, ◌||◌, List, [], ◌∷◌, take, drop, ◌==◌, nat_le, nat_lt, slice_index, slice_index_or}
+use Rattle.std.specs.Prelude.{ℕ, zero, suc, ◌+◌, ◌-◌, ◌*◌, ◌%◌, Bool, cond, not, ◌&&◌, List, take, drop, ◌==◌, nat_le, nat_lt, slice_index, slice_index_or}
+use Rattle.std.specs.List.{list_any}
 use Rattle.program.specs.declared.names.Controller.{Controller}
 use Rattle.program.specs.Names.{controller}
 use Rattle.program.specs.Tree.{Program, end}
@@ -18,13 +19,9 @@ free t = t.controller.0 == 0
 abbrev pub thread_at : Net → ℕ → Thread
 thread_at net slot = slice_index_or net.threads slot zero_thread
 
--- a running thread has x for its place, or for its pass; and some thread of a list has
+-- a running thread has x for its place, or for its pass
 abbrev pub has : (Thread → ℕ) → ℕ → Thread → Bool
 has field x t = not (free t) && field t == x
-
-unfoldable pub some : {A : Type 0} → (A → Bool) → List A → Bool
-some f [] = false
-some f (a ∷ l) = f a || some f l
 
 -- the lowest number from k on, of n, that passes a test; k + n where none does
 unfoldable pub lowest_from : (ℕ → Bool) → ℕ → ℕ → ℕ
@@ -36,7 +33,7 @@ abbrev pub slot_in : List Thread → ℕ → ℕ → ℕ
 slot_in threads k n = lowest_from (λ slot. free (slice_index_or threads slot zero_thread)) k n
 
 abbrev pub place_in : List Thread → ℕ → ℕ → ℕ
-place_in threads k n = lowest_from (λ place. not (some (has (λ t. t.place) place) threads)) k n
+place_in threads k n = lowest_from (λ place. not (list_any (has (λ t. t.place) place) threads)) k n
 
 -- of the whole net; 64 and 8 where there is none
 abbrev pub free_slot : Net → ℕ
@@ -51,7 +48,7 @@ abbrev pub candidate : ℕ → ℕ → ℕ
 candidate last d = (last + 1 + d) % 65536
 
 abbrev pub carried : List Thread → ℕ → Bool
-carried threads p = some (has (λ t. t.pass) p) threads
+carried threads p = list_any (has (λ t. t.pass) p) threads
 
 abbrev pub over_in : List Thread → ℕ → ℕ
 over_in threads last = lowest_from (λ d. not (carried threads (candidate last d))) 0 65

@@ -1,5 +1,6 @@
 -- Document 01: "A record is sound if ..", as plain statements and as a test. Definitions only.
-use Rattle.std.specs.Prelude.{◌≡◌, ℕ, ◌<◌, ◌≤◌, Bool, true, false, cond, not, ◌&&◌, T, leb, List, [], ◌∷◌, length, ◌==◌, nat_le, nat_lt, slice_index}
+use Rattle.std.specs.Prelude.{◌≡◌, ℕ, ◌<◌, ◌≤◌, Bool, true, false, cond, not, ◌&&◌, T, leb, length, ◌==◌, nat_le, nat_lt, slice_index}
+use Rattle.std.specs.List.{list_all}
 use Rattle.program.specs.Tree.{Program}
 use Rattle.program.specs.Reading.{Found, whole, cut, bad}
 use Rattle.rules.specs.declared.net.Thread.{Thread}
@@ -25,10 +26,6 @@ pub record Sized (net : Net) : Type 0 where
   pub bytes : length net.places ≡ 3072
 
 -- the same as a test
-abbrev pub every : {A : Type 0} → (A → Bool) → List A → Bool
-every f [] = true
-every f (a ∷ l) = f a && every f l
-
 abbrev pub is_whole : Found Program → Bool
 is_whole (whole p m) = true
 is_whole cut = false
@@ -44,4 +41,4 @@ abbrev pub slotb : Net → Thread → Bool
 slotb net t = cond (free t) (is_zero t) (placedb net t)
 
 unfoldable pub soundb : Net → Bool
-soundb net = nat_le net.n 16 && (every (λ b. leb b 2) net.trust && every (slotb net) net.threads)
+soundb net = nat_le net.n 16 && (list_all (λ b. leb b 2) net.trust && list_all (slotb net) net.threads)

@@ -5,4 +5,4 @@ mod net;
 mod reply;
 
 pub use net::{Counter, Issued, Net, Thread};
-pub use reply::{ControllerField, Fields, NameField, Outcome, PassField, Refusal, Reply};
+pub use reply::{Fields, Name, Outcome, Refusal, Reply};

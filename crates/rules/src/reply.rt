@@ -1,66 +1,109 @@
-// What a call answers: done, with its fields, or a refusal, one for each row of the table.
+// What a call answers: `Ok` with its fields where it is done, or a refusal, one for each row of the table.
+ghost use Rattle.std.specs.Prelude.{◌≡◌};
+ghost use Rattle.rules.specs.Rows.{refusal_number, number_of, of_envelope, of_reading, of_code};
+
 use crate::net::Net;
-use program::{Action, Controller};
+use policy::CodeFault;
+use program::{Action, Controller, EnvelopeFault, Fault};
 
-// A field of a done reply, present or absent.
-#[derive(Clone, Copy)]
-pub enum PassField {
-    Is(u16),
-    Absent,
-}
-
-#[derive(Clone, Copy)]
-pub enum ControllerField {
-    Is(Controller),
-    Absent,
-}
-
-#[derive(Clone, Copy)]
-pub enum NameField {
+// The name that a done step has used: an action, or the controller that its thread went to.
+#[derive(Clone, Copy, Debug, PartialEq, Eq)]
+pub enum Name {
     Acted(Action),
     Went(Controller),
-    Absent,
 }
 
-// Pass of the acting stay, its controller, the name used, the new pass; and the number of passes passed over.
-#[derive(Clone, Copy)]
+impl From<Name> for u16 {
+    ghost from_gives = { λ name n. n ≡ number_of name };
+
+    fn from(name: Name) -> u16 {
+        match name {
+            Name::Acted(action) => u16::from(action.0),
+            Name::Went(controller) => u16::from(controller.0),
+        }
+    }
+}
+
+// Pass of the acting stay, its controller, the name used, the new pass, each present or absent; and the number of
+// passes passed over.
+#[derive(Clone, Copy, Debug, Default, PartialEq, Eq)]
 pub struct Fields {
-    pub pass: PassField,
-    pub controller: ControllerField,
-    pub name: NameField,
-    pub fresh: PassField,
+    pub pass: Option<u16>,
+    pub controller: Option<Controller>,
+    pub name: Option<Name>,
+    pub fresh: Option<u16>,
     pub over: u8,
 }
 
-// The rows of the table: 1 to 16 in their order, and 99.
-#[derive(Clone, Copy)]
+// The rows of the table, with the document's numbers: 1 to 16 in their order, and 99.
+#[derive(Clone, Copy, Debug, PartialEq, Eq)]
 pub enum Refusal {
-    Fewer,
-    Length,
-    Version,
-    Cut,
-    Bad,
-    LeftOver,
-    NotFitting,
-    NotHonest,
-    NoSlot,
-    NoPlace,
-    NoThread,
-    SlipNotFitting,
-    AlreadyHere,
-    BadSetUp,
-    NotCoherent,
-    NoController,
-    NotSound,
+    Fewer = 1,
+    Length = 2,
+    Version = 3,
+    Cut = 4,
+    Bad = 5,
+    LeftOver = 6,
+    NotFitting = 7,
+    NotHonest = 8,
+    NoSlot = 9,
+    NoPlace = 10,
+    NoThread = 11,
+    SlipNotFitting = 12,
+    AlreadyHere = 13,
+    BadSetUp = 14,
+    NotCoherent = 15,
+    NoController = 16,
+    NotSound = 99,
 }
 
-#[derive(Clone, Copy)]
-pub enum Reply {
-    Done(Fields),
-    Refused(Refusal),
+impl From<Refusal> for u8 {
+    ghost from_gives = { λ r n. n ≡ refusal_number r };
+
+    fn from(r: Refusal) -> u8 {
+        r as u8
+    }
 }
 
-#[derive(Clone, Copy)]
+impl From<EnvelopeFault> for Refusal {
+    ghost from_gives = { λ f r. r ≡ of_envelope f };
+
+    fn from(f: EnvelopeFault) -> Refusal {
+        match f {
+            EnvelopeFault::Fewer => Refusal::Fewer,
+            EnvelopeFault::Length => Refusal::Length,
+            EnvelopeFault::Version => Refusal::Version,
+        }
+    }
+}
+
+impl From<Fault> for Refusal {
+    ghost from_gives = { λ f r. r ≡ of_reading f };
+
+    fn from(f: Fault) -> Refusal {
+        match f {
+            Fault::Cut => Refusal::Cut,
+            Fault::Bad(_) => Refusal::Bad,
+        }
+    }
+}
+
+// A sound net has a whole program wherever code is tested.
+impl From<CodeFault> for Refusal {
+    ghost from_gives = { λ f r. r ≡ of_code f };
+
+    fn from(f: CodeFault) -> Refusal {
+        match f {
+            CodeFault::Unread => Refusal::NotSound,
+            CodeFault::NotHonest => Refusal::NotHonest,
+            CodeFault::NotFitting => Refusal::NotFitting,
+        }
+    }
+}
+
+pub type Reply = Result<Fields, Refusal>;
+
+#[derive(Clone, Copy, Debug, PartialEq, Eq)]
 pub struct Outcome {
     pub reply: Reply,
     pub net: Net,

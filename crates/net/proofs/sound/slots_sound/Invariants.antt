@@ -1,11 +1,8 @@
--- `Passed`: no slot before i is unsound; and the table is right. Assumes nothing.
-use Rattle.std.proofs.Common.{◌-◌}
-use Rattle.net.specs.Ends.{Table, slot_holds}
-use Rattle.net.proofs.Searches.{Passed}
+-- Every slot before this one is sound; the places that are read are the net's.
+use Rattle.std.proofs.Common.{◌≡◌, true, take}
+use Rattle.std.specs.List.{list_all}
+use Rattle.net.specs.Ends.{slot_holds}
 use Rattle.net.proofs.sound.slots_sound.Given as goal
 
-abbrev pub invariant-loop-i : goal.invariant-loop-i
-invariant-loop-i l = Passed (slot_holds l.n l.places) 64 l.threads l.i × Table l.places l.marks l.ends
-
-abbrev pub decreases-loop-i : goal.decreases-loop-i
-decreases-loop-i l = 64 - l.i
+abbrev pub invariant-loop-t : goal.invariant-loop-t
+invariant-loop-t l = (list_all (slot_holds l.n l.places) (take l.t-index l.threads) ≡ true) × (l.reads.places.now ≡ l.places)

@@ -1,5 +1,0 @@
--- The number falls at each call.
-use Rattle.listing.proofs.line.+with_number.Given as goal
-
-abbrev pub decreases-with_number : goal.decreases-with_number
-decreases-with_number l = l.n
