@@ -3,8 +3,10 @@
 
 mod answer;
 mod calls;
+#[cfg(test)]
+mod tests;
 mod told;
 
 pub use answer::{Answer, Shown};
 pub use calls::{diverter_launch, diverter_set_up, diverter_step};
-pub use told::Told;
+pub use told::{Told, via};

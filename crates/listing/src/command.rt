@@ -18,7 +18,7 @@ pub enum Command<'a> {
 }
 
 impl Command<'_> {
-    pub fn call(self, net: &mut Net) -> Answer {
+    pub(crate) fn call(self, net: &mut Net) -> Answer {
         match self {
             Command::Launch(at, envelope) => diverter_launch(net, at, envelope.bytes()),
             Command::Step(slot) => diverter_step(net, usize::from(slot)),
@@ -26,13 +26,13 @@ impl Command<'_> {
     }
 
     // Behind a length that is out of range nothing says where the next command begins.
-    pub fn is_last(self) -> bool {
+    pub(crate) fn is_last(self) -> bool {
         matches!(self, Command::Launch(_, Envelope::OutOfRange(_)))
     }
 }
 
 // The next command; none at the end of the input, at a command that is cut and at any other first byte.
-pub fn read_command<'a, R: Read>(
+pub(crate) fn read_command<'a, R: Read>(
     input: &mut R,
     room: &'a mut Room,
 ) -> io::Result<Option<Command<'a>>> {

@@ -5,9 +5,9 @@ use std::io;
 use std::io::Read;
 
 // The most that an envelope may say follows its two length bytes.
-pub const LONGEST_SET_UP: u16 = 770;
+pub const LONGEST_SET_UP: usize = 770;
 
-pub const LONGEST_PROGRAM: u16 = 385;
+pub const LONGEST_PROGRAM: usize = 385;
 
 // Room for the longest envelope, a set-up's.
 pub type Room = [u8; 772];
@@ -21,7 +21,7 @@ pub enum Envelope<'a> {
 }
 
 impl<'a> Envelope<'a> {
-    pub fn bytes(self) -> &'a [u8] {
+    pub(crate) fn bytes(self) -> &'a [u8] {
         match self {
             Envelope::Whole(bytes) | Envelope::OutOfRange(bytes) | Envelope::Cut(bytes) => bytes,
         }
@@ -50,17 +50,17 @@ fn read_full<R: Read>(input: &mut R, bytes: &mut [u8]) -> io::Result<usize>
 pub fn read_envelope<'a, R: Read>(
     input: &mut R,
     room: &'a mut Room,
-    most: u16,
+    most: usize,
 ) -> io::Result<Envelope<'a>> {
     let head = read_full(input, &mut room[..2])?;
     if head < 2 {
         return Ok(Envelope::Cut(&room[..head]));
     }
-    let stated = u16::from_be_bytes([room[0], room[1]]);
+    let stated = usize::from(u16::from_be_bytes([room[0], room[1]]));
     if stated < 2 || most.min(LONGEST_SET_UP) < stated {
         return Ok(Envelope::OutOfRange(&room[..2]));
     }
-    let end = 2 + usize::from(stated);
+    let end = 2 + stated;
     let got = 2 + read_full(input, &mut room[2..end])?;
     if got < end {
         return Ok(Envelope::Cut(&room[..got]));

@@ -112,6 +112,10 @@ begins s ends k short right = ap is_some known ∙ go (read_at s k)
     go cut = refl
     go (bad o) = refl
 
+-- a place is no longer than that
+pub short_by : (places : List ℕ) (place : ℕ) {s : List ℕ} → s ≡ place_bytes places place → length s ≤ 384
+short_by places place e = omega (arith, ap length e, place_short places place)
+
 -- and of the places: what a place that has been read says of a position
 pub program_is : (before places : List ℕ) (all : List (Option (List (Option ℕ)))) (place position : ℕ) {ends : List (Option ℕ)} {a k : ℕ} {r : Option ℕ} {b : Bool} →
     AllRight places all → places ≡ before → place < 8 → a ≡ place → k ≡ position → slice_index_or all a None ≡ Some ends → r ≡ slice_index_or ends k None → b ≡ is_some r →

@@ -13,8 +13,7 @@ fn agrees(trust: &[u8], k: Controller, l: Controller) -> bool
     trust_of(trust, k, k) != 1 || known == 0 || known == trust_of(trust, l, l)
 }
 
-// k and every controller of a net of n. The bound keeps the count of controllers in a byte, here and in
-// `coherent`.
+// k and every controller of a net of n, of at most 16 as its set-up is told here and in `coherent`: so 16 + n is a byte.
 fn agrees_with_all(trust: &[u8], n: u8, k: Controller) -> bool
     requires { n ≤ 16 }
     ensures { result ≡ all_agree trust.now n k }

@@ -19,7 +19,8 @@ fn end_in(ends: &Ends, at: usize) -> Option<u16>
     ends.get(at).copied().flatten()
 }
 
-// Where the program at `at` ends, by the ends behind it.
+// Where the program at `at` ends, by the ends behind it. A tree of at most 384 bytes, here and in `read_ends`: so an end fits, as `as` says, where
+// the error of `try_from` could not be.
 #[tactic(auto, using(crate::proofs::Endings::endings))]
 fn end_at(tree: &[u8], at: usize, ends: &Ends) -> Option<u16>
     requires { (length tree.now ≤ 384) × Behind tree.now ends.now (at + 1) }
@@ -64,6 +65,7 @@ impl<'a> Reads<'a> {
     }
 
     // Reads a place that is not read yet.
+    #[tactic(auto, using(crate::proofs::Endings::short_by))]
     fn read(&mut self, place: u8)
         requires { place < 8 }
         ensures read { IsSome (slice_index_or self.new.ends place None) }

@@ -35,6 +35,7 @@ fn room_for(net: &Net, c: Controller, bytes: &[u8]) -> Result<(usize, u8), Refus
     if !in_net(net.n, c) {
         return Err(Refusal::NoController);
     }
+    // A launch brings no slip, and none is looked at.
     let look = at_launch(&net.trust, c);
     let policy = policy_of(&net.policies, c);
     enter(look, policy, body(bytes), 0, 0, 0)?;

@@ -25,8 +25,7 @@ pub fn free_place(threads: &[Thread; 64], mut places: Range<u8>) -> Option<u8>
 // A place's 384 bytes; there is no ninth place.
 #[tactic(auto, using(crate::proofs::Writes::places))]
 pub fn place_bytes(places: &[u8; 3072], place: u8) -> &[u8]
-    ensures bytes { result.now ≡ place_bytes places.now place }
-    ensures short { length result.now ≤ 384 }
+    ensures { result.now ≡ place_bytes places.now place }
 {
     if place < 8 {
         let from = 384 * usize::from(place);
@@ -36,7 +35,8 @@ pub fn place_bytes(places: &[u8; 3072], place: u8) -> &[u8]
     }
 }
 
-// Writes a tree, and zeros behind it, into a place: nothing of what stood there is left.
+// Writes a tree, and zeros behind it, into a place: nothing of what stood there is left. A launched tree is no longer than a place; it is no place's
+// bytes yet, so no type of a place could say so.
 #[tactic(auto, using(crate::proofs::Writes::places))]
 pub fn write_tree(places: &mut [u8; 3072], place: u8, tree: &[u8])
     requires { (place < 8) × (length tree.now ≤ 384) }

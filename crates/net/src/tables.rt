@@ -4,7 +4,7 @@ ghost use Rattle.rules.specs.Calls.{trust_byte, policy_byte};
 
 use crate::bytes::{byte_at, times};
 
-// The trust byte at an index of the table: the bytes have rows of n.
+// The trust byte at an index of the table: the bytes have rows of n. A row is at most 15, hence `as`.
 pub fn trust_byte(bytes: &[u8], n: u8, x: usize) -> u8
     requires { x < 256 }
     ensures { result ≡ trust_byte bytes.now n x }

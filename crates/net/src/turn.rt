@@ -20,8 +20,8 @@ pub enum Turn {
     Departs(Controller, u16),
 }
 
-// Whether the target lets the thread in: 13, 16, then 12 alone or 8 before 7. A controller of at most 16 has a policy: asked
-// here and handed on by `turn_at`, and of no other function.
+// Whether the target lets the thread in: 13, 16, then 12 alone or 8 before 7. In a net of at most 16 each controller has a policy: `turn_of`
+// knows it of a sound net, and `turn_at` hands it on.
 #[tactic(auto, using(crate::proofs::Turns::d_enters))]
 fn departure_check(net: &Net, t: Thread, own: Departure) -> Result<(), Refusal>
     requires { net.now.n ≤ 16 }
@@ -39,7 +39,8 @@ fn departure_check(net: &Net, t: Thread, own: Departure) -> Result<(), Refusal>
     enter(look, policy, tree, own.slip, own.entries, own.carried)
 }
 
-// By node: a second side and a body need a free slot (9), a departure the target's leave.
+// By node: a second side and a body need a free slot (9), a departure the target's leave. Positions inside a place fit, and so `as`: the error
+// of `try_from` could not be.
 fn turn_at(net: &Net, t: Thread, node: Node) -> Result<Turn, Refusal>
     requires { (net.now.n ≤ 16) × Near node }
     ensures { result ≡ turn_at net.now t node }

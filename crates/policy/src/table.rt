@@ -2,7 +2,7 @@
 ghost use Rattle.std.specs.Prelude.{◌≡◌};
 ghost use Rattle.policy.specs.Bytes.{fits_bytes, more, none, slip_counts};
 
-// The counts with a name `times` more, of which 255 takes what a byte cannot hold; they have no name above 31.
+// The counts with a name `times` more; 255 stands for what a byte cannot hold, and there is no name above 31.
 pub fn add(mut counts: [u8; 32], name: u8, times: u8) -> [u8; 32]
     ensures { result ≡ more counts name times }
 {

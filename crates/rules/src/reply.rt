@@ -88,7 +88,7 @@ impl From<Fault> for Refusal {
     }
 }
 
-// A sound net has a whole program wherever code is tested.
+// Code is tested only where a whole program was read before, so `Unread` would mean a record that is not sound.
 impl From<CodeFault> for Refusal {
     ghost from_gives = { λ f r. r ≡ of_code f };
 

@@ -1,6 +1,11 @@
 use Rattle.std.proofs.Common.{◌≡◌, Err, sym, ◌∙◌, rules}
-use Rattle.net.proofs.Launches.{l_entry, l_slot, l_place, l_room}
+use Rattle.net.proofs.Launches.{l_tree, l_entry, l_slot, l_place, l_room}
 use Rattle.net.proofs.launching.room_for.Goals as goal
+
+pub returns-in_err-tree_check : goal.returns-in_err-tree_check
+returns-in_err-tree_check c =
+    let refused : c.from_residual-in_err-tree_check.result ≡ Err c.in_err-tree_check.field-0.0 = search rules in
+    refused ∙ sym (l_tree _ _ _ (search rules) (search rules) (search rules))
 
 pub returns-in_err-enter : goal.returns-in_err-enter
 returns-in_err-enter c =
