@@ -43,7 +43,6 @@ fn main() -> ExitCode {
 /// The gate's run: nothing may differ, and every row of the table has to occur.
 fn run() -> ExitCode {
     println!("seed {}", SEED);
-    // Too small a stack ends the program here.
     stack::try_deepest();
     let mut pair = Pair::new(CALLS);
     let started = Instant::now();
@@ -54,8 +53,11 @@ fn run() -> ExitCode {
         pair.tally.calls,
         started.elapsed().as_secs_f64()
     );
-    let mut verdict = Verdict::default();
-    verdict.hold(true, || "the stack".to_string());
+    // One passed already: the stack was enough, since too small a one would have ended the program.
+    let mut verdict = Verdict {
+        passed: 1,
+        failed: 0,
+    };
     verdict.none(layout::difference());
     // A run that stops at a difference says nothing of the rows.
     if differs.is_none() {

@@ -158,7 +158,6 @@ impl Tally {
 }
 
 /// How many tests passed and failed; each failure is told at once.
-#[derive(Default)]
 pub struct Verdict {
     pub passed: u64,
     pub failed: u64,
