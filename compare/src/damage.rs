@@ -37,55 +37,48 @@ fn head(chance: &mut Chance, bytes: &mut [u8]) {
 }
 
 /// A clause of soundness, and what breaks it in a sound record with a running thread and a free slot.
-pub struct Clause {
-    pub name: &'static str,
-    pub damage: fn(&mut Chance, &mut Net),
-}
+pub type Clause = (&'static str, fn(&mut Chance, &mut Net));
 
 pub const CLAUSES: [Clause; 11] = [
-    clause("n above 16", |chance, net| {
+    ("n above 16", |chance, net| {
         net.n = between(chance, 17, 255) as u8
     }),
-    clause("n below a thread's controller", |chance, net| {
+    ("n below a thread's controller", |chance, net| {
         let controller = usize::from(running(chance, net).controller);
         net.n = between(chance, 0, controller - 16) as u8
     }),
-    clause("a trust byte above 2", |chance, net| {
+    ("a trust byte above 2", |chance, net| {
         net.trust[between(chance, 0, 255)] = between(chance, 3, 255) as u8
     }),
-    clause("a free slot with a place", |chance, net| {
+    ("a free slot with a place", |chance, net| {
         free(chance, net).place = between(chance, 1, 255) as u8
     }),
-    clause("a free slot with a position", |chance, net| {
+    ("a free slot with a position", |chance, net| {
         free(chance, net).position = nonzero_word(chance)
     }),
-    clause("a free slot with a pass", |chance, net| {
+    ("a free slot with a pass", |chance, net| {
         free(chance, net).pass = nonzero_word(chance)
     }),
-    clause("a place above 7", |chance, net| {
+    ("a place above 7", |chance, net| {
         running(chance, net).place = between(chance, 8, 255) as u8
     }),
-    clause("a controller of no net", |chance, net| {
+    ("a controller of no net", |chance, net| {
         let behind_the_last = 16 + net.n;
         running(chance, net).controller = chance.pick(&[1, 15, behind_the_last, 32, 255])
     }),
-    clause("a position behind the place", |chance, net| {
+    ("a position behind the place", |chance, net| {
         running(chance, net).position = between(chance, PLACE_LENGTH, 65_535) as u16
     }),
-    clause("a position without a program", |chance, net| {
+    ("a position without a program", |chance, net| {
         let bad = chance.pick(&FAULTS);
         let position = between(chance, 4, PLACE_LENGTH - bad.len());
         stand_at(chance, net, position, bad)
     }),
-    clause("a program that runs out of its place", |chance, net| {
+    ("a program that runs out of its place", |chance, net| {
         let cut = chance.pick(&CUTS);
         stand_at(chance, net, PLACE_LENGTH - cut.len(), cut)
     }),
 ];
-
-const fn clause(name: &'static str, damage: fn(&mut Chance, &mut Net)) -> Clause {
-    Clause { name, damage }
-}
 
 /// Each way in which a byte can have no meaning.
 const FAULTS: [&[u8]; 9] = [

@@ -207,12 +207,12 @@ impl Player<'_> {
         self.set_up(&hall)?;
         self.launch(16, envelope(&[SPLIT, ACT, 3, END, END]))?;
         self.step(0)?;
-        for clause in &CLAUSES {
+        for (clause, break_it) in CLAUSES {
             let sound = self.pair.second.clone();
             let mut damaged = sound.clone();
-            (clause.damage)(&mut self.chance, &mut damaged);
+            break_it(&mut self.chance, &mut damaged);
             self.adopt(&damaged);
-            self.refused_as_damaged(clause.name, &hall)?;
+            self.refused_as_damaged(clause, &hall)?;
             let cut = damage::bytes(&mut self.chance, hall.bytes());
             if !self.call(Call::SetUp(cut))?.is_done() && self.chance.one_in(4) {
                 self.set_up(&hall)?;

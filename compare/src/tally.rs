@@ -39,7 +39,7 @@ pub struct Tally {
 
 impl Tally {
     pub fn new() -> Tally {
-        let clauses = CLAUSES.iter().map(|clause| clause.name);
+        let clauses = CLAUSES.iter().map(|(name, _)| *name);
         Tally {
             calls: 0,
             replies: [[0; 256]; 3],
