@@ -2,7 +2,7 @@
 
 use crate::bags::*;
 use crate::calls::Call;
-use crate::records::{allows, stands, unknown, usual, worst};
+use crate::records::{allows, stands, strange, unknown, usual, worst};
 use second::net::{Net, PLACE_LENGTH};
 
 pub struct Case {
@@ -116,10 +116,10 @@ pub const CASES: [Case; 45] = [
         step(unknown(last_at(64, &slips(23), 0)), 63)
     }),
     case("overlaps-step-act", (0, 0), || {
-        step(last_at(64, &overlaps(), 335), 63)
+        step(stands(strange(64, 8, &overlaps()), 63, 335), 63)
     }),
     case("overlaps-step-slip", (0, 64), || {
-        step(last_at(64, &overlaps(), 0), 63)
+        step(stands(strange(64, 8, &overlaps()), 63, 0), 63)
     }),
     case("splits-step-split", (0, 0), || {
         step(last_at(63, &splits(), 67), 62)
