@@ -1,14 +1,27 @@
 //! The same call, again and again, each time on a fresh copy of the record.
 
 use crate::proved;
+use second::envelope::{LENGTH_BYTES, LONGEST_SET_UP};
 use second::net::Net;
 use std::hint::black_box;
 
 /// A call with all that it lends but the record.
 pub enum Call {
-    SetUp(Vec<u8>),
-    Launch(u8, Vec<u8>),
+    SetUp(&'static [u8]),
+    Launch(u8, &'static [u8]),
     Step(usize),
+}
+
+/// At a page's beginning: how many instructions `memcpy` takes depends on where things stand, and so neither the record
+/// nor the stack below it nor the bytes may move with what else is in memory.
+#[repr(align(4096))]
+struct Page<T>(T);
+
+/// The bytes, where they are lent from, up to the program's end.
+pub fn lent(bytes: &[u8]) -> &'static [u8] {
+    let page = Box::leak(Box::new(Page([0; LENGTH_BYTES + LONGEST_SET_UP])));
+    page.0[..bytes.len()].copy_from_slice(bytes);
+    &page.0[..bytes.len()]
 }
 
 /// One call of the second program, and its reply's number and what was passed over.
@@ -48,26 +61,22 @@ impl Side {
 
     /// Makes the call `times` times, and tells what the last one said; nothing where none is made.
     pub fn run(self, times: u32, net: &Net, call: &Call) -> Option<(u8, u8)> {
-        let record = proved::Record::from(net);
+        let net = Page(net.clone());
+        let record = Page(proved::Record::from(&net.0));
         match self {
-            Side::Proved => Some(repeat(times, &record, call, proved::make)),
-            Side::Second => Some(repeat(times, net, call, of_second)),
+            Side::Proved => Some(repeat(times, &record.0, call, proved::make)),
+            Side::Second => Some(repeat(times, &net.0, call, of_second)),
             Side::ProvedCopies => {
-                repeat(times, &record, call, none);
+                repeat(times, &record.0, call, none);
                 None
             }
             Side::SecondCopies => {
-                repeat(times, net, call, none);
+                repeat(times, &net.0, call, none);
                 None
             }
         }
     }
 }
-
-/// At a page's beginning: how many instructions `memcpy` takes depends on where things stand, and so neither the
-/// record nor the stack below it may move with the environment.
-#[repr(align(4096))]
-struct Page<R>(R);
 
 /// Takes a function's address, so that the loop is the same code with a call as with none.
 #[inline(never)]

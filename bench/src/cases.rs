@@ -1,7 +1,7 @@
 //! The cases: a record, a call, and the number and the count of passes passed over that its reply has to have.
 
 use crate::bags::*;
-use crate::calls::Call;
+use crate::calls::{lent, Call};
 use crate::records::{allows, stands, strange, unknown, usual, worst};
 use second::net::{Net, PLACE_LENGTH};
 
@@ -137,11 +137,11 @@ fn set_up(n: u8, trust: u8) -> (Net, Call) {
     let mut bytes = hall(n);
     let rows = usize::from(n) * usize::from(n);
     bytes[4 + rows - 2] = trust;
-    (Net::new(), Call::SetUp(bytes))
+    (Net::new(), Call::SetUp(lent(&bytes)))
 }
 
 fn launch(net: Net, tree: &[u8]) -> (Net, Call) {
-    (net, Call::Launch(16, envelope(tree)))
+    (net, Call::Launch(16, lent(&envelope(tree))))
 }
 
 fn step(net: Net, slot: usize) -> (Net, Call) {

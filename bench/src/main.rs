@@ -1,6 +1,10 @@
 //! bench CASE N SIDE makes a case's call N times on one side; bench list names the cases, each with the number of its
 //! reply. What it costs is counted from outside, by tools/icount.
 
+// What Rust puts before main reads the list of what is mapped into memory, names of files and all, and that list is not
+// as long in every run.
+#![no_main]
+
 mod bags;
 mod calls;
 mod cases;
@@ -9,12 +13,13 @@ mod records;
 
 use calls::Side;
 use cases::{Case, CASES};
-use std::process::ExitCode;
+use std::ffi::{c_char, c_int};
 
 const USAGE: &str =
     "usage: bench CASE N (proved | proved-copies | second | second-copies), or: bench list";
 
-fn main() -> ExitCode {
+#[no_mangle]
+pub extern "C" fn main(_count: c_int, _arguments: *const *const c_char) -> c_int {
     let arguments: Vec<String> = std::env::args().skip(1).collect();
     let arguments: Vec<&str> = arguments.iter().map(String::as_str).collect();
     let outcome = match arguments[..] {
@@ -26,10 +31,10 @@ fn main() -> ExitCode {
         _ => Err(USAGE.to_string()),
     };
     match outcome {
-        Ok(()) => ExitCode::SUCCESS,
+        Ok(()) => 0,
         Err(why) => {
             eprintln!("{why}");
-            ExitCode::from(2)
+            2
         }
     }
 }
