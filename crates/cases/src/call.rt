@@ -15,7 +15,7 @@ pub enum Call {
 }
 
 impl Call {
-    pub fn make(self, net: &mut Net) -> Answer {
+    pub(crate) fn make(self, net: &mut Net) -> Answer {
         match self {
             Call::SetUp(given) => diverter_set_up(net, given.bytes().as_slice()),
             Call::Launch(at, given) => diverter_launch(net, at, given.bytes().as_slice()),

@@ -29,7 +29,7 @@ fn net_is_right(row: Row, before: &Net, after: &Net) -> bool {
 }
 
 // Makes a row's call, and says what it told and what that is worth.
-pub fn check(row: Row, net: &mut Net) -> (Seen, Verdict) {
+pub(crate) fn check(row: Row, net: &mut Net) -> (Seen, Verdict) {
     let before = *net;
     let seen = Seen::from(row.0.make(net));
     let wanted = Seen::from(row.1);

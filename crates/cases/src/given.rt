@@ -32,7 +32,7 @@ impl Bytes {
         }
     }
 
-    pub fn as_slice(&self) -> &[u8] {
+    pub(crate) fn as_slice(&self) -> &[u8] {
         &self.all[..self.length]
     }
 }
@@ -89,7 +89,7 @@ pub enum Given {
 }
 
 impl Given {
-    pub fn bytes(self) -> Bytes {
+    pub(crate) fn bytes(self) -> Bytes {
         match self {
             Given::Bytes(bytes) => of_slice(bytes),
             Given::Tree(tree) => enveloped(tree),

@@ -54,7 +54,7 @@ pub const EMPTY: Scene = Scene {
 
 impl Slot {
     // A slot as a net has it; beyond the last there is none.
-    pub fn of(net: &Net, slot: usize) -> Option<Slot> {
+    pub(crate) fn of(net: &Net, slot: usize) -> Option<Slot> {
         let t = net.threads.get(slot)?;
         Some(Slot(slot, t.place, t.position, t.controller.0, t.pass))
     }
@@ -118,7 +118,7 @@ fn all_done(net: &mut Net, times: usize, call: Call) -> bool {
 
 impl Scene {
     // The net that the rows begin with, if it comes to be.
-    pub fn prepared(&self) -> Option<Net> {
+    pub(crate) fn prepared(&self) -> Option<Net> {
         let mut net = Net::default();
         if let Some(hall) = self.hall
             && !all_done(&mut net, 1, Call::SetUp(Given::Tables(hall)))

@@ -1,12 +1,11 @@
 // The tables of a set-up: rows of a fixed width, zero beyond n.
-ghost use Rattle.std.specs.Prelude.{◌≡◌, ◌<◌};
+ghost use Rattle.std.specs.Prelude.{◌≡◌};
 ghost use Rattle.rules.specs.Calls.{trust_byte, policy_byte};
 
 use crate::bytes::{byte_at, times};
 
-// The trust byte at an index of the table: the bytes have rows of n. A row is at most 15, hence `as`.
+// The trust byte at an index of the table: the bytes have rows of n. A row below n is a byte, hence `as`.
 pub fn trust_byte(bytes: &[u8], n: u8, x: usize) -> u8
-    requires { x < 256 }
     ensures { result ≡ trust_byte bytes.now n x }
 {
     let row = x / 16;
@@ -20,7 +19,6 @@ pub fn trust_byte(bytes: &[u8], n: u8, x: usize) -> u8
 
 // The count at an index of the policies: they follow the n × n trust bytes.
 pub fn policy_byte(bytes: &[u8], n: u8, x: usize) -> u8
-    requires { x < 512 }
     ensures { result ≡ policy_byte bytes.now n x }
 {
     if x / 32 < usize::from(n) {
