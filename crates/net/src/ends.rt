@@ -4,44 +4,69 @@ ghost use Rattle.std.specs.Prelude.{◌≡◌, ◌+◌, ◌≤◌, ◌<◌, IsSo
 ghost use Rattle.program.specs.Reading.{read_at};
 ghost use Rattle.rules.specs.Nets.{place_bytes};
 ghost use Rattle.rules.specs.Sound.{is_whole};
-ghost use Rattle.net.specs.Ends.{end_at, Behind, AllRight};
+ghost use Rattle.net.specs.Ends.{end_at, end_in, ZerosFrom, zero_end, Behind, AllRight};
 
 use crate::places::place_bytes;
 use program::{Start, head_at, start_at};
+use std::array;
 
-// For each position of a place: where the program that begins there ends, if a whole one does.
-type Ends = [Option<u16>; 384];
+// For each position of a place, and the one behind it: where the program that begins there ends, and 0 where none does, since none ends at 0. Numbers
+// and no Options: a place has 384 to write and to look up, and as Options they took a step on eight full places 1.5 times as long.
+type Ends = [u16; 385];
 
 // Behind the place there is no program.
-fn end_in(ends: &Ends, at: usize) -> Option<u16>
-    ensures { result ≡ slice_index_or ends.now at None }
+fn end_in(ends: &Ends, at: usize) -> Option<usize>
+    ensures { result ≡ end_in ends.now at }
 {
-    ends.get(at).copied().flatten()
+    match ends.get(at) {
+        None | Some(0) => None,
+        Some(end) => Some(usize::from(*end)),
+    }
 }
 
-// Where the program at `at` ends, by the ends behind it. A tree of at most 384 bytes, here and in `read_ends`: so an end fits, as `as` says, where
-// the error of `try_from` could not be.
+// Where the program at `at` ends, by the ends behind it.
 #[tactic(auto, using(crate::proofs::Endings::endings))]
-fn end_at(tree: &[u8], at: usize, ends: &Ends) -> Option<u16>
+fn end_at(tree: &[u8], at: usize, ends: &Ends) -> Option<usize>
     requires { (length tree.now ≤ 384) × Behind tree.now ends.now (at + 1) }
     ensures { result ≡ end_at tree.now at }
 {
     match start_at(tree, at).ok()? {
-        Start::End(next) => Some(next as u16),
+        Start::End(next) => Some(next),
         Start::Act(_, next) => end_in(ends, next),
-        Start::Split(first) => end_in(ends, usize::from(end_in(ends, first)?)),
+        Start::Split(first) => end_in(ends, end_in(ends, first)?),
         Start::Repeat(body) => end_in(ends, body),
         Start::Depart(own) => end_in(ends, head_at(tree, own).ok()?.carried),
     }
 }
 
+// How many bytes there are up to the last that is not 0.
+fn used(tree: &[u8]) -> usize
+    ensures low { result ≤ length tree.now }
+    ensures zeros { ZerosFrom tree.now result }
+{
+    for at in (0..tree.len()).rev() {
+        if tree[at] != 0 {
+            return at + 1;
+        }
+    }
+    0
+}
+
+// Where a zero ends, if one stands there: each zero is an end.
+fn zero_end(at: usize) -> u16
+    ensures { result ≡ zero_end at }
+{
+    if at < 384 { at as u16 + 1 } else { 0 }
+}
+
+// The zeros behind a tree are known unread. A place's tree: so an end fits, as `as` says, where the error of `try_from` could not be.
 fn read_ends(tree: &[u8]) -> Ends
-    requires { length tree.now ≤ 384 }
+    requires { length tree.now ≡ 384 }
     ensures { Behind tree.now result 0 }
 {
-    let mut ends = [None; 384];
-    for at in (0..384).rev() {
-        ends[at] = end_at(tree, at, &ends);
+    let mut ends = array::from_fn(|at| zero_end(at));
+    for at in (0..used(tree)).rev() {
+        ends[at] = end_at(tree, at, &ends).unwrap_or(0) as u16;
     }
     ends
 }
@@ -65,7 +90,6 @@ impl<'a> Reads<'a> {
     }
 
     // Reads a place that is not read yet.
-    #[tactic(auto, using(crate::proofs::Endings::short_by))]
     fn read(&mut self, place: u8)
         requires { place < 8 }
         ensures read { IsSome (slice_index_or self.new.ends place None) }

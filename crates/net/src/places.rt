@@ -25,7 +25,8 @@ pub fn free_place(threads: &[Thread; 64], mut places: Range<u8>) -> Option<u8>
 // A place's 384 bytes; there is no ninth place.
 #[tactic(auto, using(crate::proofs::Writes::places))]
 pub fn place_bytes(places: &[u8; 3072], place: u8) -> &[u8]
-    ensures { result.now ≡ place_bytes places.now place }
+    ensures bytes { result.now ≡ place_bytes places.now place }
+    ensures long { place < 8 → length result.now ≡ 384 }
 {
     if place < 8 {
         let from = 384 * usize::from(place);

@@ -4,16 +4,19 @@ use mathlib.Core.List.{List}
 use Prim.Native.Nat.{ℕ, ◌-◌, ◌<◌}
 use native.Mathlib.Omega.{arith}
 use lib.ListN.{length}
-use Rattle.std.proofs.Common.{Ok, Err}
+use Rattle.std.proofs.Common.{Result, Ok, Err}
 use Rattle.program.specs.declared.names.Action.{Action}
 use Rattle.program.specs.declared.names.Controller.{Controller}
 use Rattle.program.specs.declared.reader.Fault.{Fault}
 use Rattle.program.specs.declared.reader.Start.{Start}
 use Rattle.program.specs.declared.reader.Start.TheVariants as start
 use Rattle.program.specs.declared.reader.Departure.{Departure}
-use Rattle.program.specs.Tree.{Slip, split, depart}
-use Rattle.program.specs.Reading.{Found, whole, and_then, Kind, ends, acts, splits, repeats, departs, kind_at, head_at, depart_at, inside_at, step, read_at}
-use Rattle.program.specs.Shown.{shown, start_of, shown_start, departure_of, shown_head}
+use borrow.Author.Tests.{lt-ltb, le-ltb}
+use Rattle.program.specs.Tree.{Slip, Program, split, depart}
+use Rattle.program.specs.Reading.{Found, whole, cut, bad, and_then, Kind, ends, acts, splits, repeats, departs, kind_at, head_at, depart_at, inside_at, step, read_at}
+use Rattle.program.specs.Shown.{shown, start_of, shown_start, departure_of, shown_head, stop_of, stopped, fault_at}
+use Rattle.program.specs.Faults.{InOrder}
+use Rattle.program.proofs.Faults.{faults_in_order}
 use Rattle.program.proofs.Found.{then_is}
 use Rattle.program.proofs.Shows.{is_ok, is_err, err_of, then_failed, is_whole, shown_then}
 use Rattle.program.proofs.Step.{start_grows, head_grows, step_is, read_step}
@@ -119,4 +122,61 @@ module _ (s : List ℕ) (k : ℕ) where
     pub less_carried : length s - d.carried < length s - k
     less_carried = omega (arith, head_grows s k (is_head k (head_at s k) h).1)
 
-pub ruleset ways = (r_err, r_end, r_act, r_repeat, r_depart, r_split_err, r_split, d_err, d_whole, less_act, less_repeat, less_depart, less_first, less_second, less_carried)
+-- the offset at which reading ends or stops
+module _ (s : List ℕ) where
+  pub ended : {m : ℕ} (r : Result ℕ Fault) → stopped s r ≡ Ok m → r ≡ Ok m
+  ended {m} (Ok n) e = let same : n ≡ m = cc in ap Ok same
+  ended (Err x) e = cc
+
+  module _ (k : ℕ) where
+    pub p_err : {x : Fault} → shown_start (kind_at s k) ≡ Err x → stopped s (shown (read_at s k)) ≡ Err (stop_of s x)
+    p_err h = ap (stopped s) (r_err s k h)
+
+    pub p_no_head : {x : Fault} → shown_head k (head_at s k) ≡ Err x → stopped s (shown (depart_at (read_at s) s k)) ≡ Err (stop_of s x)
+    p_no_head h = ap (stopped s) (d_err s k h)
+
+    pub p_carried : {d : Departure} → shown_head k (head_at s k) ≡ Ok d → stopped s (shown (depart_at (read_at s) s k)) ≡ stopped s (shown (read_at s d.carried))
+    p_carried h = ap (stopped s) (d_whole s k h)
+
+    module _ {m : ℕ} where
+      pub p_end : shown_start (kind_at s k) ≡ Ok (start.End m) → stopped s (shown (read_at s k)) ≡ Ok m
+      p_end h = ap (stopped s) (r_end s k h)
+
+      pub p_act : {a : Action} → shown_start (kind_at s k) ≡ Ok (start.Act a m) → stopped s (shown (read_at s k)) ≡ stopped s (shown (read_at s m))
+      p_act h = ap (stopped s) (r_act s k h)
+
+      pub p_repeat : shown_start (kind_at s k) ≡ Ok (start.Repeat m) → stopped s (shown (read_at s k)) ≡ stopped s (shown (read_at s m))
+      p_repeat h = ap (stopped s) (r_repeat s k h)
+
+      pub p_depart : shown_start (kind_at s k) ≡ Ok (start.Depart m) → stopped s (shown (read_at s k)) ≡ stopped s (shown (depart_at (read_at s) s m))
+      p_depart h = ap (stopped s) (r_depart s k h)
+
+      module _ (h : shown_start (kind_at s k) ≡ Ok (start.Split m)) where
+        pub p_split_stop : {o : ℕ} → stopped s (shown (read_at s m)) ≡ Err o → stopped s (shown (read_at s k)) ≡ Err o
+        p_split_stop {o} e = go (shown (read_at s m)) refl e
+          where
+            go : (r : Result ℕ Fault) → shown (read_at s m) ≡ r → stopped s r ≡ Err o → stopped s (shown (read_at s k)) ≡ Err o
+            go (Ok n) i e = cc
+            go (Err x) i e = ap (stopped s) (r_split_err s k h i) ∙ e
+
+        pub p_split : {n : ℕ} → stopped s (shown (read_at s m)) ≡ Ok n → stopped s (shown (read_at s k)) ≡ stopped s (shown (read_at s n))
+        p_split e = ap (stopped s) (r_split s k h (ended _ e))
+
+        pub p_less_second : {n : ℕ} → stopped s (shown (read_at s m)) ≡ Ok n → length s - n < length s - k
+        p_less_second e = less_second s k h (ended _ e)
+
+    -- from it back to the program's end, or to why there is none: a byte of no meaning is one of the bytes
+    pub p_whole : {m : ℕ} → stopped s (shown (read_at s k)) ≡ Ok m → shown (read_at s k) ≡ Ok m
+    p_whole e = ended _ e
+
+    pub p_fault : {o : ℕ} → stopped s (shown (read_at s k)) ≡ Err o → shown (read_at s k) ≡ Err (fault_at s o)
+    p_fault {o} e = go (read_at s k) (faults_in_order s k) e
+      where
+        go : (r : Found Program) → InOrder s k r → stopped s (shown r) ≡ Err o → shown r ≡ Err (fault_at s o)
+        go (whole p m) i e = cc
+        go cut i e = let same : length s ≡ o = cc in rw (le-ltb o (length s) (omega (arith, same))) refl
+        go (bad x) i e = let same : x ≡ o = cc in rw (sym same, lt-ltb x (length s) i.1) refl
+
+pub ruleset ways = (p_err, p_no_head, p_carried, p_end, p_act, p_repeat, p_depart, p_split_stop, p_split, less_act, less_repeat, less_depart, less_first, p_less_second, less_carried)
+
+pub ruleset stops = (p_whole, p_fault)

@@ -1,5 +1,5 @@
 -- What the source's answers say of what reading finds: a whole value's offset, and none of the value. Definitions only.
-use Rattle.std.specs.Prelude.{ℕ, ◌+◌, List, length, Result, Ok, Err}
+use Rattle.std.specs.Prelude.{ℕ, ◌+◌, List, length, cond, ltb, Result, Ok, Err}
 use Rattle.program.specs.declared.names.Controller.{Controller}
 use Rattle.program.specs.declared.reader.Fault.{Fault}
 use Rattle.program.specs.declared.reader.Fault.TheVariants.{Cut, Bad}
@@ -38,3 +38,16 @@ departure_of k h m = record { controller = h.0; slip = k + 1 + 1; entries = leng
 
 abbrev pub shown_head : ℕ → Found (Controller × Slip) → Result Departure Fault
 shown_head k o = shown_by (departure_of k) o
+
+-- where reading stops: at the byte of no meaning, or where the bytes end
+abbrev pub stop_of : List ℕ → Fault → ℕ
+stop_of s Cut = length s
+stop_of s (Bad o) = o
+
+abbrev pub stopped : List ℕ → Result ℕ Fault → Result ℕ ℕ
+stopped s (Ok m) = Ok m
+stopped s (Err x) = Err (stop_of s x)
+
+-- and why it stops there
+abbrev pub fault_at : List ℕ → ℕ → Fault
+fault_at s o = cond (ltb o (length s)) (Bad o) Cut

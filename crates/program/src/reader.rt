@@ -2,7 +2,7 @@
 // offset are two arguments and no cursor: a split has two offsets in one tree, and a fault and a thread name theirs.
 ghost use Rattle.std.specs.Prelude.{◌≡◌, ◌+◌};
 ghost use Rattle.program.specs.Reading.{kind_at, slip_at, head_at, depart_at, read_at};
-ghost use Rattle.program.specs.Shown.{shown, shown_byte, shown_start, shown_head};
+ghost use Rattle.program.specs.Shown.{shown, shown_byte, shown_start, shown_head, stop_of, stopped, fault_at};
 
 use crate::names::{Action, Controller};
 
@@ -59,18 +59,19 @@ fn byte_in(tree: &[u8], at: usize, low: u8, last: u8) -> Result<u8, Fault>
 pub fn start_at(tree: &[u8], at: usize) -> Result<Start, Fault>
     ensures { result ≡ shown_start (kind_at tree.now at) }
 {
-    let kind = byte_in(tree, at, 0, 4)?;
+    let kind = byte(tree, at)?;
     let next = at + 1;
-    Ok(match kind {
-        0 => Start::End(next),
+    match kind {
+        0 => Ok(Start::End(next)),
         1 => {
             let action = Action::try_from(byte(tree, next)?).map_err(|_| Fault::Bad(next))?;
-            Start::Act(action, next + 1)
+            Ok(Start::Act(action, next + 1))
         }
-        2 => Start::Split(next),
-        3 => Start::Repeat(next),
-        _ => Start::Depart(next),
-    })
+        2 => Ok(Start::Split(next)),
+        3 => Ok(Start::Repeat(next)),
+        4 => Ok(Start::Depart(next)),
+        _ => Err(Fault::Bad(at)),
+    }
 }
 
 // `n` slip entries from `at`, names rising strictly, no count 0.
@@ -109,29 +110,62 @@ pub fn head_at(tree: &[u8], at: usize) -> Result<Departure, Fault>
 }
 
 // The program whose first byte is at `at`.
-#[cycle(read_departure_read_program)]
-#[tactic(auto, using(crate::proofs::Ways::ways))]
+#[tactic(auto, using(crate::proofs::Ways::stops))]
 pub fn read_program(tree: &[u8], at: usize) -> Result<usize, Fault>
     ensures { result ≡ shown (read_at tree.now at) }
 {
-    match start_at(tree, at)? {
-        Start::End(next) => Ok(next),
-        Start::Act(_, next) => read_program(tree, next),
-        Start::Split(first) => {
-            let second = read_program(tree, first)?;
-            read_program(tree, second)
+    program_end(tree, at).map_err(|stop| fault_at(tree, stop))
+}
+
+// Where it ends, or else where reading it stops: two words, which a call hands back in registers. A fault beside an end is three, and cost each node
+// of a tree four times the stack and half as much time again.
+#[cycle(departure_end_program_end)]
+#[tactic(auto, using(crate::proofs::Ways::ways))]
+fn program_end(tree: &[u8], at: usize) -> Result<usize, usize>
+    ensures { result ≡ stopped tree.now (shown (read_at tree.now at)) }
+{
+    match start_at(tree, at) {
+        Ok(Start::End(next)) => Ok(next),
+        Ok(Start::Act(_, next)) => program_end(tree, next),
+        Ok(Start::Split(first)) => {
+            let second = program_end(tree, first)?;
+            program_end(tree, second)
         }
-        Start::Repeat(body) => read_program(tree, body),
-        Start::Depart(own) => read_departure(tree, own),
+        Ok(Start::Repeat(body)) => program_end(tree, body),
+        Ok(Start::Depart(own)) => departure_end(tree, own),
+        Err(why) => Err(stop_of(tree, why)),
     }
 }
 
-// The rest of a departure, from its controller's byte, at `at`, to the end of the program that it carries.
-#[cycle(read_departure_read_program)]
+// The same of the rest of a departure, from its controller's byte, at `at`, to the end of the program that it carries.
+#[cycle(departure_end_program_end)]
 #[tactic(auto, using(crate::proofs::Ways::ways))]
-fn read_departure(tree: &[u8], at: usize) -> Result<usize, Fault>
-    ensures { result ≡ shown (depart_at (read_at tree.now) tree.now at) }
+fn departure_end(tree: &[u8], at: usize) -> Result<usize, usize>
+    ensures { result ≡ stopped tree.now (shown (depart_at (read_at tree.now) tree.now at)) }
 {
-    let own = head_at(tree, at)?;
-    read_program(tree, own.carried)
+    match head_at(tree, at) {
+        Ok(own) => program_end(tree, own.carried),
+        Err(why) => Err(stop_of(tree, why)),
+    }
+}
+
+// Where reading stops: at the byte that has no meaning, or where the bytes end.
+fn stop_of(tree: &[u8], why: Fault) -> usize
+    ensures { result ≡ stop_of tree.now why }
+{
+    match why {
+        Fault::Cut => tree.len(),
+        Fault::Bad(at) => at,
+    }
+}
+
+// Why it stops there.
+fn fault_at(tree: &[u8], stop: usize) -> Fault
+    ensures { result ≡ fault_at tree.now stop }
+{
+    if stop < tree.len() {
+        Fault::Bad(stop)
+    } else {
+        Fault::Cut
+    }
 }
