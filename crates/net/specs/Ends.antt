@@ -1,5 +1,5 @@
 -- Where the whole program that begins at a position ends, for each position of a place. Definitions only.
-use Rattle.std.specs.Prelude.{ℕ, ◌+◌, ◌≤◌, ◌<◌, Bool, cond, ◌&&◌, ◌≡◌, ◌==◌, List, Option, Some, None, Result, Ok, Err, nat_lt, length, slice_index, slice_index_or}
+use Rattle.std.specs.Prelude.{ℕ, ◌+◌, ◌≤◌, ◌<◌, Bool, cond, ◌&&◌, ◌≡◌, List, Option, Some, None, unwrap_or, Result, Ok, Err, nat_lt, length, slice_index, slice_index_or}
 use Rattle.program.specs.declared.reader.Fault.{Fault}
 use Rattle.program.specs.Reading.{read_at}
 use Rattle.program.specs.Shown.{shown}
@@ -16,13 +16,9 @@ end_of (Err x) = None
 unfoldable pub end_at : List ℕ → ℕ → Option ℕ
 end_at s k = end_of (shown (read_at s k))
 
--- an end as it stands among the ends: 0 is none, since no program ends there
-abbrev pub standing : ℕ → Option ℕ
-standing x = cond (x == 0) None (Some x)
-
--- the end for a position; behind the place there is none
-abbrev pub end_in : List ℕ → ℕ → Option ℕ
-end_in ends k = standing (slice_index ends k)
+-- the same as a number: 0 is none, since no program ends at 0
+abbrev pub marked : Option ℕ → ℕ
+marked o = unwrap_or o 0
 
 -- from k on there are only zeros
 abbrev pub ZerosFrom : List ℕ → ℕ → Type 0
@@ -34,7 +30,7 @@ zero_end k = cond (nat_lt k 384) (k + 1) 0
 
 -- the ends are right from k on, in a place with the bytes s
 abbrev pub Behind : List ℕ → List ℕ → ℕ → Type 0
-Behind s ends k = (j : ℕ) → k ≤ j → j < 385 → end_in ends j ≡ end_at s j
+Behind s ends k = (j : ℕ) → k ≤ j → j < 385 → slice_index ends j ≡ marked (end_at s j)
 
 -- they are right in each place that has been read; a place has 384 positions, and behind them no program begins
 abbrev pub AllRight : List ℕ → List (Option (List ℕ)) → Type 0

@@ -1,41 +1,43 @@
 // Where the whole programs of a place end. A place that threads share is read once, from the right: where the program that begins at a
 // position ends is known from the positions behind it. Each thread is then one look-up.
-ghost use Rattle.std.specs.Prelude.{◌≡◌, ◌+◌, ◌≤◌, ◌<◌, IsSome, None, length, nat_lt, ◌&&◌, slice_index_or};
+ghost use Rattle.std.specs.Prelude.{◌≡◌, ◌+◌, ◌≤◌, ◌<◌, IsSome, None, length, nat_lt, ◌&&◌, slice_index, slice_index_or};
 ghost use Rattle.program.specs.Reading.{read_at};
 ghost use Rattle.rules.specs.Nets.{place_bytes};
 ghost use Rattle.rules.specs.Sound.{is_whole};
-ghost use Rattle.net.specs.Ends.{end_at, end_in, ZerosFrom, zero_end, Behind, AllRight};
+ghost use Rattle.net.specs.Ends.{end_at, marked, ZerosFrom, zero_end, Behind, AllRight};
 
 use crate::places::place_bytes;
 use program::{Start, head_at, start_at};
 use std::array;
 
 // For each position of a place, and the one behind it: where the program that begins there ends, and 0 where none does, since none ends at 0. Numbers
-// and no Options: a place has 384 to write and to look up, and as Options they took a step on eight full places 1.5 times as long.
+// and no Options, here and in what is answered of them: a place has 384 to look up and to write, and with Options a step on eight full places took
+// 1.5 times as long.
 type Ends = [u16; 385];
 
 // Behind the place there is no program.
-fn end_in(ends: &Ends, at: usize) -> Option<usize>
-    ensures { result ≡ end_in ends.now at }
+fn end_in(ends: &Ends, at: usize) -> usize
+    ensures { result ≡ slice_index ends.now at }
 {
-    match ends.get(at) {
-        None | Some(0) => None,
-        Some(end) => Some(usize::from(*end)),
-    }
+    usize::from(ends.get(at).copied().unwrap_or(0))
 }
 
 // Where the program at `at` ends, by the ends behind it.
 #[tactic(auto, using(crate::proofs::Endings::endings))]
-fn end_at(tree: &[u8], at: usize, ends: &Ends) -> Option<usize>
+fn end_at(tree: &[u8], at: usize, ends: &Ends) -> usize
     requires { (length tree.now ≤ 384) × Behind tree.now ends.now (at + 1) }
-    ensures { result ≡ end_at tree.now at }
+    ensures { result ≡ marked (end_at tree.now at) }
 {
-    match start_at(tree, at).ok()? {
-        Start::End(next) => Some(next),
-        Start::Act(_, next) => end_in(ends, next),
-        Start::Split(first) => end_in(ends, end_in(ends, first)?),
-        Start::Repeat(body) => end_in(ends, body),
-        Start::Depart(own) => end_in(ends, head_at(tree, own).ok()?.carried),
+    match start_at(tree, at) {
+        Ok(Start::End(next)) => next,
+        Ok(Start::Act(_, next)) => end_in(ends, next),
+        Ok(Start::Split(first)) => match end_in(ends, first) {
+            0 => 0,
+            second => end_in(ends, second),
+        },
+        Ok(Start::Repeat(body)) => end_in(ends, body),
+        Ok(Start::Depart(own)) => head_at(tree, own).map_or(0, |head| end_in(ends, head.carried)),
+        Err(_) => 0,
     }
 }
 
@@ -66,7 +68,7 @@ fn read_ends(tree: &[u8]) -> Ends
 {
     let mut ends = array::from_fn(|at| zero_end(at));
     for at in (0..used(tree)).rev() {
-        ends[at] = end_at(tree, at, &ends).unwrap_or(0) as u16;
+        ends[at] = end_at(tree, at, &ends) as u16;
     }
     ends
 }
@@ -113,7 +115,7 @@ impl<'a> Reads<'a> {
         self.read(place);
         let position = usize::from(position);
         match &self.ends[usize::from(place)] {
-            Some(ends) => end_in(ends, position).is_some(),
+            Some(ends) => end_in(ends, position) != 0,
             None => false,
         }
     }
