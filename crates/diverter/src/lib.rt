@@ -11,4 +11,4 @@ mod told;
 pub use answer::{Answer, Shown};
 pub use by_value::{launch_via, set_up_via, step_via};
 pub use calls::{diverter_launch, diverter_set_up, diverter_step};
-pub use told::Told;
+pub use told::{Told, via};

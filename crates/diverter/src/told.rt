@@ -24,7 +24,7 @@ impl From<Outcome> for Told {
 }
 
 // The net is lent for one call, and handed back with the answer.
-pub(crate) fn via<F: FnOnce(&mut Net) -> Answer>(net: Net, call: F) -> Told
+pub fn via<F: FnOnce(&mut Net) -> Answer>(net: Net, call: F) -> Told
     requires { F.IsAlwaysCallable call }
     ensures { FnOnceReturnsAtMut F.FnOnce call net result.answer result.net }
 {

@@ -177,6 +177,7 @@ module _ (s : List ℕ) where
         go cut i e = let same : length s ≡ o = cc in rw (le-ltb o (length s) (omega (arith, same))) refl
         go (bad x) i e = let same : x ≡ o = cc in rw (sym same, lt-ltb x (length s) i.1) refl
 
-pub ruleset ways = (p_err, p_no_head, p_carried, p_end, p_act, p_repeat, p_depart, p_split_stop, p_split, less_act, less_repeat, less_depart, less_first, p_less_second, less_carried)
+-- each way through the readers: what is read there, that fewer bytes are left, and where reading ends or stops
+pub ruleset ways = (r_err, r_end, r_act, r_repeat, r_depart, r_split_err, r_split, d_err, d_whole, less_act, less_repeat, less_depart, less_first, less_second, less_carried, p_err, p_no_head, p_carried, p_end, p_act, p_repeat, p_depart, p_split_stop, p_split, p_less_second)
 
 pub ruleset stops = (p_whole, p_fault)
